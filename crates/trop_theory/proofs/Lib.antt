@@ -1,0 +1,12 @@
+pub mod Order
+pub mod Rows
+pub mod Combinations
+pub mod Residual
+pub mod Sizes
+pub mod Truth
+pub mod StepSound
+pub mod StepComplete
+pub mod StepLaws
+pub mod SameCones
+pub mod CompareLaws
+pub mod Canonical

@@ -1,0 +1,11 @@
+pub mod Semiring
+pub mod Numbers
+pub mod Vectors
+pub mod Normal
+pub mod Compare
+pub mod Inequalities
+pub mod Combinations
+pub mod Extreme
+pub mod Canonical
+pub mod Steps
+pub mod Residual
