@@ -1,0 +1,7 @@
+pub mod MaxPlus
+pub mod MaxPlusLaws
+pub mod MinPlus
+pub mod MinPlusLaws
+pub mod Truth
+pub mod TruthLaws
+pub mod Words

@@ -1,0 +1,117 @@
+-- The laws of the min-plus semiring.
+use Rattle.std.proofs.Common.{◌≡◌, ◌≢◌, ◌⊎◌, ◌≤◌, ◌+◌, ℕ, max, Bool, true, false, cond, Option, Some, None, inl, inr, sym, ap, ◌∙◌, refl, arith}
+use Rattle.std.specs.Prelude.{ℤ, pos, negsuc, ◌+ℤ◌, neg_ℤ, int_lt, nat_abs, ◌≤ℤ◌, ◌<ℤ◌, ◌↔◌}
+use Rattle.std.specs.Ordering.{int_eq}
+use Rattle.std.proofs.lemmas.Bool.Decides.{Decides-int_eq}
+use Rattle.std.proofs.lemmas.Int.{ints, by_lt_z}
+use Rattle.trop_theory.specs.Semiring.{Semiring, SemiringLaws, Le}
+use Rattle.trop_scalar.specs.MaxPlus.{sum_of, opposite, magnitude, max_numbering}
+use Rattle.trop_scalar.specs.MinPlus.{lesser, min_plus, min_ring}
+use Rattle.trop_scalar.specs.MaxPlusLaws.{sum_assoc, sum_comm, abs_sum, abs_opposite, same_or_not, some_selective, times_assoc, times_comm, one_neutral, invertible, size_times, size_inverse, some_or_not, discrete, both_of_some}
+use Rattle.trop_theory.specs.Numbers.{NumberLaws, NumericLaws}
+use Rattle.std.specs.Cmp.{IsEquivalence}
+
+lesser_assoc : (a b c : ℤ) → lesser (lesser a b) c ≡ lesser a (lesser b c)
+lesser_assoc a b c = grind (arith, ints)
+
+lesser_comm : (a b : ℤ) → lesser a b ≡ lesser b a
+lesser_comm a b = grind (arith, ints)
+
+lesser_selective : (a b : ℤ) → (lesser a b ≡ a) ⊎ (lesser a b ≡ b)
+lesser_selective a b = grind (arith, ints)
+
+sum-lesser : (a b c : ℤ) → a +ℤ lesser b c ≡ lesser (a +ℤ b) (a +ℤ c)
+sum-lesser a b c = grind (arith, ints)
+
+next_below : (a b : ℤ) → lesser a b ≡ b → a ≢ b → lesser a (pos 1 +ℤ b) ≡ pos 1 +ℤ b
+next_below a b h d = grind (arith, ints)
+
+abs_lesser : (a b : ℤ) → nat_abs (lesser a b) ≤ max (nat_abs a) (nat_abs b)
+abs_lesser a b = grind (arith, ints)
+
+plus_assoc : (a b c : Option ℤ) → min_plus (min_plus a b) c ≡ min_plus a (min_plus b c)
+plus_assoc None b c = refl
+plus_assoc (Some a) None c = refl
+plus_assoc (Some a) (Some b) None = refl
+plus_assoc (Some a) (Some b) (Some c) = ap Some (lesser_assoc a b c)
+
+plus_comm : (a b : Option ℤ) → min_plus a b ≡ min_plus b a
+plus_comm None None = refl
+plus_comm None (Some b) = refl
+plus_comm (Some a) None = refl
+plus_comm (Some a) (Some b) = ap Some (lesser_comm a b)
+
+selective : (a b : Option ℤ) → (min_plus a b ≡ a) ⊎ (min_plus a b ≡ b)
+selective None b = inr refl
+selective (Some a) None = inl refl
+selective (Some a) (Some b) = some_selective a b (lesser a b) (lesser_selective a b)
+
+distributes : (a b c : Option ℤ) → sum_of a (min_plus b c) ≡ min_plus (sum_of a b) (sum_of a c)
+distributes None b c = refl
+distributes (Some a) None c = refl
+distributes (Some a) (Some b) None = refl
+distributes (Some a) (Some b) (Some c) = ap Some (sum-lesser a b c)
+
+delta_next : (a b : Option ℤ) → Le min_ring a b → a ≢ b → Le min_ring a (sum_of (Some (pos 1)) b)
+delta_next None b h d = refl
+delta_next (Some a) None h d = absurd (d h)
+delta_next (Some a) (Some b) h d = let e : lesser a b ≡ b = cc in ap Some (next_below a b e (λ q. d (ap Some q)))
+
+size_plus : (a b : Option ℤ) → magnitude (min_plus a b) ≤ max (magnitude a) (magnitude b)
+size_plus None b = omega arith
+size_plus (Some a) None = omega arith
+size_plus (Some a) (Some b) = abs_lesser a b
+
+pub min_laws : SemiringLaws min_ring
+min_laws = record {
+  plus_assoc = plus_assoc;
+  plus_comm = plus_comm;
+  selective = selective;
+  zero_neutral = λ a. refl;
+  times_assoc = times_assoc;
+  times_comm = times_comm;
+  distributes = distributes;
+  one_neutral = one_neutral;
+  zero_absorbs = λ a. refl;
+  invertible = invertible;
+  one_finite = λ e. cc;
+  delta_below = refl;
+  delta_differs = λ e. cc;
+  delta_next = delta_next;
+  size_times = size_times;
+  size_inverse = size_inverse;
+  size_plus = size_plus;
+  size_delta = omega arith;
+  size_zero = refl;
+  size_one = refl;
+  discrete = discrete;
+}
+
+le_lesser : (m n : ℤ) → (m ≤ℤ n) ↔ (Some (lesser n m) ≡ Some m)
+le_lesser m n = (λ h. ap Some (le_to m n h), λ e. to_le m n cc)
+  where
+    le_to : (m n : ℤ) → m ≤ℤ n → lesser n m ≡ m
+    le_to m n h = grind (arith, ints)
+
+    to_le : (m n : ℤ) → lesser n m ≡ m → m ≤ℤ n
+    to_le m n e = grind (arith, ints)
+
+-- the order of the semiring is that of numbers reversed
+order_of : (a b : Option ℤ) (m n : ℤ) → a ≡ Some m → b ≡ Some n → (m ≤ℤ n) ↔ Le min_ring b a
+order_of a b m n p q = (
+  λ h. ap (λ v. min_plus v a) q ∙ ap (min_plus (Some n)) p ∙ (le_lesser m n).0 h ∙ sym p,
+  λ e. (le_lesser m n).1 (sym (ap (λ v. min_plus v a) q ∙ ap (min_plus (Some n)) p) ∙ e ∙ p),
+)
+
+pub min_numeric_laws : NumericLaws min_ring max_numbering true
+min_numeric_laws = record {
+  to-of = λ n. refl;
+  of-to = λ a n e. sym e;
+  to-one = refl;
+  to-times = both_of_some;
+  size = λ a n e. ap magnitude e;
+  order = order_of;
+}
+
+pub min_number_laws : NumberLaws min_ring max_numbering
+min_number_laws = record { none = λ a. (λ e. e, λ e. e) }
