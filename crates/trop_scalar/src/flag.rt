@@ -37,6 +37,14 @@ impl Flag {
     }
 }
 
+impl Default for Flag {
+    ghost is_default = { λ x. x ≡ false };
+
+    fn default() -> Flag {
+        Flag { set: false }
+    }
+}
+
 impl Scalar for Flag {
     ghost ring = { truth_ring };
 

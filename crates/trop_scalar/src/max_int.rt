@@ -42,6 +42,14 @@ impl MaxInt {
     }
 }
 
+impl Default for MaxInt {
+    ghost is_default = { λ x. x ≡ None };
+
+    fn default() -> MaxInt {
+        MaxInt { word: i64::MIN }
+    }
+}
+
 impl PartialEq for MaxInt {
     ghost eq = { same_element };
 

@@ -45,6 +45,14 @@ impl MinInt {
     }
 }
 
+impl Default for MinInt {
+    ghost is_default = { λ x. x ≡ None };
+
+    fn default() -> MinInt {
+        MinInt { word: i64::MIN }
+    }
+}
+
 impl PartialEq for MinInt {
     ghost eq = { same_element };
 

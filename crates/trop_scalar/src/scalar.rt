@@ -5,8 +5,9 @@ ghost use Rattle.trop_theory.specs.Numbers.{Numbering, NumberLaws, NumericLaws};
 
 /// The elements of an idempotent semiring: `plus` picks one of its arguments, and each element other than the zero
 /// has an inverse for `times`. Contracts see an element as its value, which has no bound; one that a program holds
-/// has size at most 2^62. "Finite" means other than the zero.
-pub trait Scalar: Copy + Eq {
+/// has size at most 2^62. "Finite" means other than the zero. The default value fills places that hold no element yet;
+/// each instance has its zero there.
+pub trait Scalar: Copy + Eq + Default {
     /// The operations on values.
     ghost ring: { Semiring Self };
 
