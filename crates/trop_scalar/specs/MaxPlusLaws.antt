@@ -1,10 +1,10 @@
 -- The laws of the max-plus semiring.
-use Rattle.std.proofs.Common.{◌≡◌, ◌≢◌, ◌⊎◌, ◌≤◌, ◌+◌, ℕ, max, Bool, true, false, cond, Option, Some, None, inl, inr, sym, ap, ◌∙◌, refl, arith}
-use Rattle.std.specs.Prelude.{ℤ, pos, negsuc, ◌+ℤ◌, neg_ℤ, int_lt, nat_abs, ◌≤ℤ◌, ◌<ℤ◌, ◌↔◌}
+use Rattle.std.proofs.Common.{◌≡◌, ◌≢◌, ◌⊎◌, ◌≤◌, ◌+◌, max, Bool, true, false, Option, Some, None, inl, inr, sym, ap, ◌∙◌, refl, arith}
+use Rattle.std.specs.Prelude.{ℤ, pos, negsuc, ◌+ℤ◌, neg_ℤ, nat_abs, ◌≤ℤ◌, ◌↔◌}
 use Rattle.std.specs.Ordering.{int_eq}
 use Rattle.std.proofs.lemmas.Bool.Decides.{Decides-int_eq}
-use Rattle.std.proofs.lemmas.Int.{ints, by_lt_z}
-use Rattle.trop_theory.specs.Semiring.{Semiring, SemiringLaws, Le}
+use Rattle.std.proofs.lemmas.Int.{ints}
+use Rattle.trop_theory.specs.Semiring.{SemiringLaws, Le}
 use Rattle.trop_scalar.specs.MaxPlus.{greater, max_plus, sum_of, opposite, magnitude, max_ring, max_numbering, same_element}
 use Rattle.trop_theory.specs.Numbers.{NumberLaws, NumericLaws}
 use Rattle.std.specs.Cmp.{IsEquivalence}

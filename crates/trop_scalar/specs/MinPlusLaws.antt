@@ -1,15 +1,12 @@
 -- The laws of the min-plus semiring.
-use Rattle.std.proofs.Common.{◌≡◌, ◌≢◌, ◌⊎◌, ◌≤◌, ◌+◌, ℕ, max, Bool, true, false, cond, Option, Some, None, inl, inr, sym, ap, ◌∙◌, refl, arith}
-use Rattle.std.specs.Prelude.{ℤ, pos, negsuc, ◌+ℤ◌, neg_ℤ, int_lt, nat_abs, ◌≤ℤ◌, ◌<ℤ◌, ◌↔◌}
-use Rattle.std.specs.Ordering.{int_eq}
-use Rattle.std.proofs.lemmas.Bool.Decides.{Decides-int_eq}
-use Rattle.std.proofs.lemmas.Int.{ints, by_lt_z}
-use Rattle.trop_theory.specs.Semiring.{Semiring, SemiringLaws, Le}
-use Rattle.trop_scalar.specs.MaxPlus.{sum_of, opposite, magnitude, max_numbering}
+use Rattle.std.proofs.Common.{◌≡◌, ◌≢◌, ◌⊎◌, ◌≤◌, max, true, Option, Some, None, inl, inr, sym, ap, ◌∙◌, refl, arith}
+use Rattle.std.specs.Prelude.{ℤ, pos, ◌+ℤ◌, nat_abs, ◌≤ℤ◌, ◌↔◌}
+use Rattle.std.proofs.lemmas.Int.{ints}
+use Rattle.trop_theory.specs.Semiring.{SemiringLaws, Le}
+use Rattle.trop_scalar.specs.MaxPlus.{sum_of, magnitude, max_numbering}
 use Rattle.trop_scalar.specs.MinPlus.{lesser, min_plus, min_ring}
-use Rattle.trop_scalar.specs.MaxPlusLaws.{sum_assoc, sum_comm, abs_sum, abs_opposite, same_or_not, some_selective, times_assoc, times_comm, one_neutral, invertible, size_times, size_inverse, some_or_not, discrete, both_of_some}
+use Rattle.trop_scalar.specs.MaxPlusLaws.{some_selective, times_assoc, times_comm, one_neutral, invertible, size_times, size_inverse, discrete, both_of_some}
 use Rattle.trop_theory.specs.Numbers.{NumberLaws, NumericLaws}
-use Rattle.std.specs.Cmp.{IsEquivalence}
 
 lesser_assoc : (a b c : ℤ) → lesser (lesser a b) c ≡ lesser a (lesser b c)
 lesser_assoc a b c = grind (arith, ints)

@@ -1,8 +1,7 @@
 -- The laws of the Boolean semiring.
-use Rattle.std.proofs.Common.{◌≡◌, ◌≢◌, ◌⊎◌, ◌≤◌, ◌+◌, ℕ, max, Bool, true, false, cond, Option, Some, None, inl, inr, sym, ap, ◌∙◌, refl, arith}
-use Rattle.std.specs.Prelude.{ℤ, pos, negsuc, ◌+ℤ◌, neg_ℤ, int_lt, nat_abs, ◌≤ℤ◌, ◌↔◌, ◌&&◌, ◌||◌}
-use Rattle.std.proofs.lemmas.Int.{ints}
-use Rattle.trop_theory.specs.Semiring.{Semiring, SemiringLaws, Le}
+use Rattle.std.proofs.Common.{◌≡◌, ◌≢◌, ◌⊎◌, Bool, true, false, None, inl, inr, refl, arith}
+use Rattle.std.specs.Prelude.{◌↔◌, ◌&&◌, ◌||◌}
+use Rattle.trop_theory.specs.Semiring.{SemiringLaws}
 use Rattle.trop_theory.specs.Numbers.{NumberLaws}
 use Rattle.trop_scalar.specs.Truth.{truth_ring, truth_numbering, truth_number}
 

@@ -1,7 +1,7 @@
 -- An element as one signed word, whose least value stands for the zero.
-use Rattle.std.specs.Prelude.{◌≡◌, ℕ, ℤ, pos, negsuc, Bool, true, false, cond, Option, Some, None, ◌≤◌, ◌^◌, ◌-◌, refl, neg_ℤ}
+use Rattle.std.specs.Prelude.{◌≡◌, ℤ, negsuc, Bool, true, false, cond, Option, Some, None, ◌^◌, ◌-◌, refl, neg_ℤ}
 use Rattle.std.specs.Ordering.{int_eq}
-use Rattle.std.proofs.Common.{sym, ap, ◌∙◌}
+use Rattle.std.proofs.Common.{sym}
 use Rattle.std.proofs.lemmas.Bool.Decides.{Decides-int_eq}
 use Rattle.std.proofs.Math.IntN.{neg_ℤ-neg_ℤ}
 

@@ -1,19 +1,19 @@
 -- What makes a list of rows the canonical list of their combinations.
-use Rattle.std.proofs.Common.{◌≡◌, ◌≢◌, ◌⊎◌, ◌<◌, ◌≤◌, ◌+◌, ◌-◌, ℕ, zero, suc, List, [], ◌∷◌, length, map, replicate, inl, inr, ⊎_elim, sym, ap, ◌∙◌, refl, arith, subst, get_or}
+use Rattle.std.proofs.Common.{◌≡◌, ◌≢◌, ◌⊎◌, ◌<◌, ◌≤◌, ◌+◌, ◌-◌, ℕ, zero, suc, List, [], ◌∷◌, length, inl, inr, ⊎_elim, sym, ap, ◌∙◌, refl, arith, subst, get_or}
 use Rattle.std.specs.Prelude.{All, Any, AllPairs, remove, Contains, ◌↔◌}
-use Rattle.std.proofs.lemmas.List.{length-map, length-replicate, get_or_past, get_or_default}
+use Rattle.std.proofs.lemmas.List.{length-map, get_or_default}
 use Rattle.std.proofs.lemmas.Bool.{cases_lt}
 use Rattle.std.proofs.lemmas.List.Edits.{get_or-remove_below, get_or-remove_above, length-remove}
 use Rattle.std.proofs.lemmas.List.Elements.{All-head, All-tail, All-append, All-take, All-drop}
 use Rattle.trop_theory.specs.Semiring.{Semiring, SemiringLaws, Le}
-use Rattle.trop_theory.specs.Vectors.{entry, scaled, joined, bottom, Below}
+use Rattle.trop_theory.specs.Vectors.{entry, scaled, joined, bottom}
 use Rattle.trop_theory.specs.Normal.{IsNormal}
 use Rattle.trop_theory.specs.Combinations.{combined, IsCombination}
 use Rattle.trop_theory.specs.Extreme.{IsExtreme}
 use Rattle.trop_theory.specs.Canonical.{RowBelow, IsCanonical}
-use Rattle.trop_theory.proofs.Order.{swap_middle, le_refl, le_trans, le-plus_left, le-plus_right, plus-least, zero_below, below_zero, le_antisym, times_one, times_mono_left, plus_zero, undo_times, factor_finite, left_factor_finite, times_zero}
-use Rattle.trop_theory.proofs.Rows.{ap₂, same_rows, entry-joined, entry-scaled, entry-bottom, length-joined, below_trans, joined_assoc, joined_comm, scaled_one}
-use Rattle.trop_theory.proofs.Combinations.{length-combined, IsCombination-length, IsCombination-bottom, IsCombination-joined, IsCombination-scaled, IsCombination-cons, IsCombination-head}
+use Rattle.trop_theory.proofs.Order.{swap_middle, le_trans, le-plus_left, le-plus_right, plus-least, below_zero, le_antisym, times_one, times_mono_left, undo_times, left_factor_finite, times_zero}
+use Rattle.trop_theory.proofs.Rows.{ap₂, same_rows, entry-joined, entry-scaled, entry-bottom, length-joined, joined_assoc, joined_comm, scaled_one}
+use Rattle.trop_theory.proofs.Combinations.{IsCombination-length, IsCombination-bottom, IsCombination-joined, IsCombination-scaled}
 use Rattle.trop_theory.proofs.Residual.{IsCombination-at, Any-head, Any-cons}
 
 pub All-remove : {X : Type 0} (P : X → Type 0) (xs : List X) (k : ℕ) → All P xs → All P (remove xs k)

@@ -1,10 +1,10 @@
 -- Combinations are closed under sums and multiples, and have each row.
-use Rattle.std.proofs.Common.{◌≡◌, ◌≢◌, ◌<◌, ℕ, zero, suc, List, [], ◌∷◌, length, map, replicate, sym, ap, ◌∙◌, refl, arith, subst}
+use Rattle.std.proofs.Common.{◌≡◌, ℕ, suc, List, [], ◌∷◌, length, replicate, sym, ap, ◌∙◌, refl, arith}
 use Rattle.std.specs.Prelude.{All}
 use Rattle.std.proofs.lemmas.List.{length-map, length-replicate}
 use Rattle.std.proofs.lemmas.List.Elements.{All-head, All-tail}
-use Rattle.trop_theory.specs.Semiring.{Semiring, SemiringLaws, Le}
-use Rattle.trop_theory.specs.Vectors.{entry, scaled, joined, bottom, Below}
+use Rattle.trop_theory.specs.Semiring.{Semiring, SemiringLaws}
+use Rattle.trop_theory.specs.Vectors.{scaled, joined, bottom}
 use Rattle.trop_theory.specs.Combinations.{combined, IsCombination}
 use Rattle.trop_theory.proofs.Order.{swap_middle}
 use Rattle.trop_theory.proofs.Rows.{ap₂, length-joined, joined_assoc, joined_comm, scaled-joined, scaled-scaled, scaled_plus, scaled-bottom, scaled_zero, scaled_one, joined_bottom}

@@ -1,17 +1,16 @@
 -- Lists of rows with the same combinations.
-use Rattle.std.proofs.Common.{◌≡◌, ◌≢◌, ◌⊎◌, ◌<◌, ◌≤◌, ◌+◌, ℕ, zero, suc, max, List, [], ◌∷◌, ◌++◌, length, map, inl, inr, ⊎_elim, sym, ap, ◌∙◌, refl, arith, subst, get_or}
-use Rattle.std.specs.Prelude.{All, Any, Contains, ◌↔◌}
+use Rattle.std.proofs.Common.{◌≡◌, ◌≤◌, ◌+◌, ℕ, List, [], ◌∷◌, ◌++◌, length, sym, ap, ◌∙◌, arith, subst}
+use Rattle.std.specs.Prelude.{All, Contains, ◌↔◌}
 use Rattle.std.proofs.lemmas.List.{length-map, length-append, get_or_append_left}
-use Rattle.std.proofs.lemmas.List.Elements.{All-head, All-tail, All-cons, All-append, All-push, All-weaker, Contains-push, All-nil}
-use Rattle.trop_theory.specs.Semiring.{Semiring, SemiringLaws, Le}
-use Rattle.trop_theory.specs.Vectors.{entry, scaled, joined, bottom, row_size}
-use Rattle.trop_theory.specs.Normal.{IsNormal, Normalises}
-use Rattle.trop_theory.specs.Combinations.{combined, IsCombination, SameCone}
-use Rattle.trop_theory.proofs.Order.{times_one, left_factor_finite}
-use Rattle.trop_theory.proofs.Rows.{scaled-scaled, scaled_one, entry-scaled, same_rows, entry-bottom}
+use Rattle.std.proofs.lemmas.List.Elements.{All-push, Contains-push, All-nil}
+use Rattle.trop_theory.specs.Semiring.{Semiring, SemiringLaws}
+use Rattle.trop_theory.specs.Vectors.{scaled, bottom, row_size}
+use Rattle.trop_theory.specs.Normal.{Normalises}
+use Rattle.trop_theory.specs.Combinations.{IsCombination, SameCone}
+use Rattle.trop_theory.proofs.Rows.{scaled-scaled, scaled_one}
 use Rattle.trop_theory.proofs.Combinations.{IsCombination-scaled, IsCombination-bottom}
 use Rattle.trop_theory.proofs.Residual.{IsCombination-at}
-use Rattle.trop_theory.proofs.Canonical.{IsCombination-least, All-IsCombination}
+use Rattle.trop_theory.proofs.Canonical.{IsCombination-least}
 
 module _ {V : Type 0} {R : Semiring V} (laws : SemiringLaws R) (n : ℕ) where
   pub IsCombination-same : (rows others : List (List V)) → All (λ g. length g ≡ n) rows → All (λ g. length g ≡ n) others → SameCone R n rows others → (x : List V) → IsCombination R n rows x ↔ IsCombination R n others x

@@ -1,18 +1,18 @@
 -- Each combination that the inequality holds of is a combination of the rows that the step gives.
-use Rattle.std.proofs.Common.{◌≡◌, ◌≢◌, ◌⊎◌, ◌<◌, ◌≤◌, ◌+◌, ℕ, zero, suc, List, [], ◌∷◌, length, inl, inr, ⊎_elim, sym, ap, ◌∙◌, refl, arith, subst, get_or}
-use Rattle.std.specs.Prelude.{All, Contains, ◌↔◌}
+use Rattle.std.proofs.Common.{◌≡◌, ◌≢◌, ℕ, zero, suc, List, [], ◌∷◌, length, ⊎_elim, sym, ap, ◌∙◌, refl, arith, subst, get_or}
+use Rattle.std.specs.Prelude.{All, Contains}
 use Rattle.std.proofs.lemmas.List.{length-map, length-replicate, get_or_default}
 use Rattle.std.proofs.lemmas.List.Elements.{All-head, All-tail, All-cons, All-nil, All-contains}
 use Rattle.trop_theory.specs.Semiring.{Semiring, SemiringLaws, Le}
 use Rattle.trop_theory.specs.Vectors.{scaled, joined, bottom, dot}
 use Rattle.trop_theory.specs.Combinations.{combined, IsCombination}
 use Rattle.trop_theory.specs.Steps.{HoldsOf, mixed, IsStep}
-use Rattle.trop_theory.proofs.Order.{plus_itself, le_refl, le_trans, le_total, le_antisym, le-plus_left, le-plus_right, plus-least, times_mono, times_mono_left, plus_zero, times_zero, zero_below, below_zero, factor_finite, left_factor_finite, redo_times, undo_times, times_one}
-use Rattle.trop_theory.proofs.Rows.{ap₂, length-joined, joined_assoc, joined_comm, scaled-joined, scaled-scaled, scaled_plus, scaled_zero, joined_bottom}
-use Rattle.trop_theory.proofs.Combinations.{length-combined, IsCombination-length, IsCombination-joined, IsCombination-scaled}
+use Rattle.trop_theory.proofs.Order.{plus_itself, le_trans, le_total, le-plus_left, le-plus_right, times_mono, times_mono_left, plus_zero, times_zero, zero_below, below_zero, factor_finite, left_factor_finite, redo_times, undo_times, times_one}
+use Rattle.trop_theory.proofs.Rows.{ap₂, joined_assoc, joined_comm, scaled-joined, scaled-scaled, scaled_plus, scaled_zero, joined_bottom}
+use Rattle.trop_theory.proofs.Combinations.{length-combined, IsCombination-joined, IsCombination-scaled}
 use Rattle.trop_theory.proofs.Canonical.{IsCombination-least}
 use Rattle.trop_theory.proofs.SameCones.{IsCombination-contained}
-use Rattle.trop_theory.proofs.StepLaws.{dot-joined, dot-scaled, HoldsOf-joined, HoldsOf-scaled, HoldsOf-mixed}
+use Rattle.trop_theory.proofs.StepLaws.{dot-joined, dot-scaled}
 
 module _ {V : Type 0} {R : Semiring V} (laws : SemiringLaws R) where
   joined_itself : (x : List V) → joined R x x ≡ x

@@ -1,11 +1,9 @@
 -- The elementary step is sound and complete.
-use Rattle.std.proofs.Common.{◌≡◌, ◌≢◌, ◌⊎◌, ◌<◌, ◌≤◌, ◌+◌, ℕ, zero, suc, List, [], ◌∷◌, length, inl, inr, ⊎_elim, sym, ap, ◌∙◌, refl, arith, subst}
-use Rattle.std.specs.Prelude.{All, Contains, ◌↔◌}
+use Rattle.std.proofs.Common.{◌≡◌, List, [], ◌∷◌, length, sym, ap, ◌∙◌, arith, subst}
 use Rattle.trop_theory.specs.Semiring.{Semiring, SemiringLaws, Le}
-use Rattle.trop_theory.specs.Vectors.{scaled, joined, bottom, dot}
-use Rattle.trop_theory.specs.Combinations.{combined, IsCombination}
-use Rattle.trop_theory.specs.Steps.{HoldsOf, mixed, IsStep}
-use Rattle.trop_theory.proofs.Order.{le_refl, le_trans, le_total, le_antisym, le-plus_left, le-plus_right, plus-least, times_mono, plus_zero, times_zero, zero_below, swap_middle}
+use Rattle.trop_theory.specs.Vectors.{scaled, joined, dot}
+use Rattle.trop_theory.specs.Steps.{HoldsOf, mixed}
+use Rattle.trop_theory.proofs.Order.{le_refl, le_trans, le-plus_left, le-plus_right, plus-least, times_mono, plus_zero, times_zero, swap_middle}
 use Rattle.trop_theory.proofs.Rows.{ap₂}
 use Rattle.std.proofs.lemmas.List.{length-map}
 

@@ -1,15 +1,15 @@
 -- The rows that the step gives are in the guarded cone, so their combinations are exactly it.
-use Rattle.std.proofs.Common.{◌≡◌, ◌≢◌, ◌⊎◌, ◌<◌, ◌≤◌, ◌+◌, ℕ, zero, suc, List, [], ◌∷◌, length, inl, inr, ⊎_elim, sym, ap, ◌∙◌, refl, arith, subst, get_or}
+use Rattle.std.proofs.Common.{◌≡◌, ℕ, zero, suc, List, [], ◌∷◌, length, ⊎_elim, sym, ◌∙◌, refl, subst, get_or}
 use Rattle.std.specs.Prelude.{All, Contains, ◌↔◌}
-use Rattle.std.proofs.lemmas.List.{length-map, length-replicate, get_or_default}
+use Rattle.std.proofs.lemmas.List.{length-map, get_or_default}
 use Rattle.std.proofs.lemmas.List.Elements.{All-head, All-tail, All-contains}
 use Rattle.trop_theory.specs.Semiring.{Semiring, SemiringLaws, Le}
-use Rattle.trop_theory.specs.Vectors.{scaled, joined, bottom, dot}
+use Rattle.trop_theory.specs.Vectors.{scaled, bottom, dot}
 use Rattle.trop_theory.specs.Combinations.{combined, IsCombination}
-use Rattle.trop_theory.specs.Steps.{HoldsOf, mixed, IsStep}
-use Rattle.trop_theory.proofs.Order.{le_total, le_refl, plus_zero, times_zero}
+use Rattle.trop_theory.specs.Steps.{HoldsOf, IsStep}
+use Rattle.trop_theory.proofs.Order.{le_total, plus_zero, times_zero}
 use Rattle.trop_theory.proofs.Rows.{ap₂}
-use Rattle.trop_theory.proofs.Combinations.{length-combined, IsCombination-length, IsCombination-joined, IsCombination-scaled}
+use Rattle.trop_theory.proofs.Combinations.{length-combined, IsCombination-joined, IsCombination-scaled}
 use Rattle.trop_theory.proofs.Canonical.{IsCombination-least}
 use Rattle.trop_theory.proofs.SameCones.{IsCombination-contained}
 use Rattle.trop_theory.proofs.StepLaws.{HoldsOf-joined, HoldsOf-scaled, HoldsOf-mixed}

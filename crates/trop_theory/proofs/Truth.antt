@@ -1,11 +1,11 @@
 -- The comparison of the sums says that each term of the left is at most some term of the right.
-use Rattle.std.proofs.Common.{◌≡◌, ◌≢◌, ◌⊎◌, ◌<◌, ◌≤◌, ◌+◌, ℕ, zero, suc, List, [], ◌∷◌, length, inl, inr, ⊎_elim, sym, ap, ◌∙◌, refl, arith, subst}
+use Rattle.std.proofs.Common.{◌≡◌, ◌<◌, ℕ, zero, suc, List, [], ◌∷◌, length, ⊎_elim, ◌∙◌, arith, subst}
 use Rattle.std.specs.Prelude.{◌↔◌}
 use Rattle.trop_theory.specs.Semiring.{Semiring, SemiringLaws, Le}
 use Rattle.trop_theory.specs.Vectors.{entry, dot}
 use Rattle.trop_theory.specs.Inequalities.{IsTrueAt}
 use Rattle.trop_theory.specs.Steps.{HoldsOf}
-use Rattle.trop_theory.proofs.Order.{le_refl, le_trans, le-plus_left, le-plus_right, plus-least, zero_below}
+use Rattle.trop_theory.proofs.Order.{le_trans, le-plus_left, le-plus_right, plus-least, zero_below}
 
 module _ {V : Type 0} {R : Semiring V} (laws : SemiringLaws R) where
   -- a term is at most the sum

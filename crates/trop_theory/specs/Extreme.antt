@@ -2,7 +2,7 @@
 -- Butkovic, Schneider, Sergeev: Generators, extremals and bases of max cones (2007); Gaubert, Katz: The Minkowski
 -- theorem for max-plus convex sets (2007). Types: Allamigeon, Gaubert, Goubault: The tropical double description
 -- method (2010).
-use Rattle.std.specs.Prelude.{◌≡◌, ◌≢◌, ◌⊎◌, ◌<◌, ℕ, List, length}
+use Rattle.std.specs.Prelude.{◌≡◌, ◌≢◌, ◌⊎◌, ℕ, List, length}
 use Rattle.trop_theory.specs.Semiring.{Semiring}
 use Rattle.trop_theory.specs.Vectors.{entry, joined, bottom, Below}
 

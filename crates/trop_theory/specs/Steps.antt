@@ -1,6 +1,6 @@
 -- The elementary step: one more inequality on a cone that is given by rows.
 -- Allamigeon, Gaubert, Goubault: The tropical double description method (2010).
-use Rattle.std.specs.Prelude.{◌≡◌, ◌≢◌, ◌⊎◌, ℕ, List, Contains}
+use Rattle.std.specs.Prelude.{◌≡◌, ◌≢◌, ◌⊎◌, List, Contains}
 use Rattle.trop_theory.specs.Semiring.{Semiring, Le}
 use Rattle.trop_theory.specs.Vectors.{scaled, joined, dot}
 

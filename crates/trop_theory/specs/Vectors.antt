@@ -1,5 +1,5 @@
 -- Vectors: lists of values. A vector has the zero at every coordinate past its end.
-use Rattle.std.specs.Prelude.{◌≡◌, ◌≢◌, ◌<◌, ◌≤◌, ℕ, max, List, [], ◌∷◌, map, length, replicate, slice_index_or, All}
+use Rattle.std.specs.Prelude.{◌≡◌, ℕ, max, List, [], ◌∷◌, map, length, replicate, slice_index_or, All}
 use Rattle.trop_theory.specs.Semiring.{Semiring, Le}
 
 -- entry i, which is the zero past the end

@@ -1,5 +1,4 @@
-use Rattle.std.proofs.Common.{arith, ap, ◌∙◌}
-use Rattle.trop_theory.specs.Vectors.{dot}
+use Rattle.std.proofs.Common.{arith}
 use Rattle.trop_theory.proofs.Sizes.{size-entries, dot_end}
 use Rattle.trop_scalar.proofs.scalar.Scalar.sum_of_products.Goals as goal
 
