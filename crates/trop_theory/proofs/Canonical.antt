@@ -174,6 +174,12 @@ module _ {V : Type 0} {R : Semiring V} (laws : SemiringLaws R) (n : ℕ) where
       (λ q. Any-cons (λ g. (c : V) × (x ≡ scaled R c g)) g rows (row_from_extreme cone x h lengths sums multiples cs rows (All-tail cone g rows w) q))
       (h.unsplit (scaled R c g) (combined R n cs rows) (multiples c g (All-head cone g rows w)) (sums cs rows (All-tail cone g rows w)) e)
 
+  -- an extreme vector of the combinations of rows is a multiple of a row
+  pub multiple_from_extreme : (rows : List (List V)) (x : List V) → All (λ g. length g ≡ n) rows → IsExtreme R (IsCombination R n rows) x → Any (λ g. (c : V) × (x ≡ scaled R c g)) rows
+  multiple_from_extreme rows x w h =
+      row_from_extreme (IsCombination R n rows) x h (λ y k. IsCombination-length laws n rows y w k) (λ cs rs k. least cs rs rows w k) (λ c y k. IsCombination-scaled laws n rows c y k)
+      h.member.coefficients rows (All-IsCombination rows w) h.member.is_sum
+
   -- two rows in normal form, one a multiple of the other, are the same
   pub same_from_multiple : (x g : List V) (c : V) → IsNormal R x → IsNormal R g → x ≡ scaled R c g → x ≡ g
   same_from_multiple x g c hx hg e = e ∙ ap (λ v. scaled R v g) is_one ∙ scaled_one laws g
@@ -200,8 +206,7 @@ module _ {V : Type 0} {R : Semiring V} (laws : SemiringLaws R) (n : ℕ) where
   -- an extreme vector in normal form is one of the rows, where these are in normal form
   pub Contains-extreme : (rows : List (List V)) (x : List V) → All (λ g. length g ≡ n) rows → All (IsNormal R) rows → IsNormal R x → IsExtreme R (IsCombination R n rows) x → Contains rows x
   Contains-extreme rows x w normal hx h =
-      let found = row_from_extreme (IsCombination R n rows) x h (λ y k. IsCombination-length laws n rows y w k) (λ cs rs k. least cs rs rows w k) (λ c y k. IsCombination-scaled laws n rows c y k)
-      h.member.coefficients rows (All-IsCombination rows w) h.member.is_sum in
+      let found = multiple_from_extreme rows x w h in
       let g = found.1 in
       let same : x ≡ g = same_from_multiple x g found.4.0 hx (subst (IsNormal R) found.3 (normal found.0 g found.2)) found.4.1 in
       (found.0, found.2, get_or_default rows found.0 x g found.2 ∙ found.3 ∙ sym same)

@@ -10,3 +10,8 @@ pub mod StepLaws
 pub mod SameCones
 pub mod CompareLaws
 pub mod Canonical
+pub mod Decided
+pub mod Generation
+pub mod Narrower
+pub mod Distinct
+pub mod Units

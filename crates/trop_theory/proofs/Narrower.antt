@@ -1,0 +1,253 @@
+-- One more inequality: the candidates of the elementary step that are extreme are the canonical list of the smaller cone.
+-- Allamigeon, Gaubert, Goubault: The tropical double description method (2010).
+use Rattle.std.proofs.Common.{◌≡◌, ◌≢◌, ◌⊎◌, ◌<◌, ℕ, zero, suc, List, [], ◌∷◌, ◌++◌, length, map, inl, inr, ⊎_elim, sym, ap, ◌∙◌, refl, arith, subst, get_or}
+use Rattle.std.specs.Prelude.{All, AllPairs, Contains, ◌↔◌}
+use Rattle.std.proofs.lemmas.List.{length-map, get_or_default, length-append, get_or_append_left}
+use Rattle.std.proofs.lemmas.List.Elements.{All-push, All-contains, Contains-append_left, Contains-append_right, Contains-append_cases, Contains-push, Contains-get_or}
+use Rattle.trop_theory.specs.Semiring.{Semiring, SemiringLaws}
+use Rattle.trop_theory.specs.Vectors.{entry, scaled, dot}
+use Rattle.trop_theory.specs.Normal.{IsNormal, Normalises}
+use Rattle.trop_theory.specs.Inequalities.{Inequality, IsTrueAt, Solves, IsIn}
+use Rattle.trop_theory.specs.Combinations.{IsCombination}
+use Rattle.trop_theory.specs.Extreme.{IsExtreme}
+use Rattle.trop_theory.specs.Canonical.{RowBelow, IsCanonical}
+use Rattle.trop_theory.specs.Steps.{HoldsOf, mixed, IsStep}
+use Rattle.trop_theory.proofs.Order.{le_total, left_factor_finite}
+use Rattle.trop_theory.proofs.Rows.{length-joined, entry-scaled}
+use Rattle.trop_theory.proofs.Combinations.{IsCombination-scaled, IsCombination-joined}
+use Rattle.trop_theory.proofs.Canonical.{multiple_from_extreme, same_from_multiple, IsExtreme-same}
+use Rattle.trop_theory.proofs.StepLaws.{HoldsOf-scaled, HoldsOf-mixed}
+use Rattle.trop_theory.proofs.StepSound.{step_is_guard}
+use Rattle.trop_theory.proofs.Truth.{truth}
+use Rattle.trop_theory.proofs.Decided.{Decided}
+use Rattle.trop_theory.proofs.Generation.{canonical_generates}
+
+-- the elements of a list that a decided test chooses
+pub record Chosen {X : Type 0} (P : X → Type 0) (xs : List X) : Type 0 where
+  pub chosen : List X
+  pub there : (x : X) → Contains xs x → P x → Contains chosen x
+  pub back : (x : X) → Contains chosen x → Contains xs x × P x
+
+module _ {X : Type 0} where
+  Contains-cons : (y : X) (xs : List X) (x : X) → Contains xs x → Contains (y ∷ xs) x
+  Contains-cons y xs x h = (suc h.0, omega (arith, h.1), h.2)
+
+  Contains-cons_cases : (y : X) (xs : List X) (x : X) → Contains (y ∷ xs) x → (y ≡ x) ⊎ Contains xs x
+  Contains-cons_cases y xs x h = at h.0 h.1 h.2
+    where
+      at : (k : ℕ) → k < length (y ∷ xs) → get_or (y ∷ xs) k x ≡ x → (y ≡ x) ⊎ Contains xs x
+      at zero l e = inl e
+      at (suc k) l e = inr (k, omega arith, e)
+
+  Contains-none : (x : X) → Contains [] x → ⊥
+  Contains-none x h = let l = h.1 in omega arith
+
+  pub chosen_of : (P : X → Type 0) → ((x : X) → Decided (P x)) → (xs : List X) → Chosen P xs
+  chosen_of P d [] = record {
+    chosen = [];
+    there = λ x h p. h;
+    back = λ x h. absurd (Contains-none x h);
+  }
+  chosen_of P d (y ∷ xs) = ⊎_elim
+      (λ p.
+      let r = chosen_of P d xs in
+      record {
+        chosen = y ∷ r.chosen;
+        there = λ x h q. ⊎_elim (λ e. (0, omega arith, e)) (λ t. Contains-cons y r.chosen x (r.there x t q)) (Contains-cons_cases y xs x h);
+        back = λ x h. ⊎_elim (λ e. ((0, omega arith, e), subst P e p)) (λ t. (Contains-cons y xs x (r.back x t).0, (r.back x t).1)) (Contains-cons_cases y r.chosen x h);
+      })
+      (λ np.
+      let r = chosen_of P d xs in
+      record {
+        chosen = r.chosen;
+        there = λ x h q. ⊎_elim (λ e. absurd (np (subst P (sym e) q))) (λ t. r.there x t q) (Contains-cons_cases y xs x h);
+        back = λ x h. (Contains-cons y xs x (r.back x h).0, (r.back x h).1);
+      })
+      (d y)
+
+-- f of each element of the first list and each of the second
+products : {X : Type 0} → (X → X → X) → List X → List X → List X
+products f [] ys = []
+products f (x ∷ xs) ys = map (f x) ys ++ products f xs ys
+
+module _ {X : Type 0} (f : X → X → X) where
+  Contains-map : (g : X → X) (ys : List X) (y : X) → Contains ys y → Contains (map g ys) (g y)
+  Contains-map g [] y h = absurd (Contains-none y h)
+  Contains-map g (z ∷ ys) y h = ⊎_elim (λ e. (0, omega arith, ap g e)) (λ t. Contains-cons (g z) (map g ys) (g y) (Contains-map g ys y t)) (Contains-cons_cases z ys y h)
+
+  from_map : (g : X → X) (ys : List X) (z : X) → Contains (map g ys) z → (y : X) × Contains ys y × (z ≡ g y)
+  from_map g [] z h = absurd (Contains-none z h)
+  from_map g (w ∷ ys) z h = ⊎_elim
+      (λ e. (w, (0, omega arith, refl), sym e))
+      (λ t. let r = from_map g ys z t in (r.0, Contains-cons w ys r.0 r.1, r.2))
+      (Contains-cons_cases (g w) (map g ys) z h)
+
+  Contains-products : (xs ys : List X) (x y : X) → Contains xs x → Contains ys y → Contains (products f xs ys) (f x y)
+  unfolding products
+  Contains-products [] ys x y h k = absurd (Contains-none x h)
+  Contains-products (z ∷ xs) ys x y h k = ⊎_elim
+      (λ e. subst (λ w. Contains (map (f z) ys ++ products f xs ys) (f w y)) e (Contains-append_left (map (f z) ys) (products f xs ys) (f z y) (Contains-map (f z) ys y k)))
+      (λ t. Contains-append_right (map (f z) ys) (products f xs ys) (f x y) (Contains-products xs ys x y t k))
+      (Contains-cons_cases z xs x h)
+
+  from_products : (xs ys : List X) (z : X) → Contains (products f xs ys) z → (x : X) × (y : X) × Contains xs x × Contains ys y × (z ≡ f x y)
+  unfolding products
+  from_products [] ys z h = absurd (Contains-none z h)
+  from_products (w ∷ xs) ys z h = ⊎_elim
+      (λ t. let r = from_map (f w) ys z t in (w, r.0, (0, omega arith, refl), r.1, r.2))
+      (λ t. let r = from_products xs ys z t in (r.0, r.1, Contains-cons w xs r.0 r.2, r.3, r.4))
+      (Contains-append_cases (map (f w) ys) (products f xs ys) z h)
+
+module _ {V : Type 0} {R : Semiring V} where
+  -- an extreme vector of a cone that lies in a smaller cone is extreme there
+  pub IsExtreme-narrower : (C D : List V → Type 0) → ((x : List V) → D x → C x) → (x : List V) → D x → IsExtreme R C x → IsExtreme R D x
+  IsExtreme-narrower C D inside x member h = record {
+    member = member;
+    not_bottom = h.not_bottom;
+    unsplit = λ y z hy hz s. h.unsplit y z (inside y hy) (inside z hz) s;
+  }
+
+  -- solutions of a longer system
+  pub Solves-push : (n : ℕ) (system : List (Inequality V)) (p : Inequality V) (x : List V) → Solves R n system x → IsTrueAt R p x → Solves R n (system ++ p ∷ []) x
+  Solves-push n system p x h t = record { wide = h.wide; holds = All-push (λ q. IsTrueAt R q x) system p h.holds t }
+
+  pub Solves-front : (n : ℕ) (system : List (Inequality V)) (p : Inequality V) (x : List V) → Solves R n (system ++ p ∷ []) x → Solves R n system x
+  Solves-front n system p x h = record {
+    wide = h.wide;
+    holds = λ k d l. subst (λ q. IsTrueAt R q x) (get_or_append_left system (p ∷ []) d k l) (h.holds k d (omega (arith, length-append system (p ∷ []))));
+  }
+
+  pub Solves-last : (n : ℕ) (system : List (Inequality V)) (p : Inequality V) (x : List V) → Solves R n (system ++ p ∷ []) x → IsTrueAt R p x
+  Solves-last n system p x h = All-contains (λ q. IsTrueAt R q x) (system ++ p ∷ []) p h.holds (Contains-push system p)
+
+module _ {V : Type 0} {R : Semiring V} (laws : SemiringLaws R) (n : ℕ) where
+  -- the rows that the elementary step gives, with the mixed rows by their parents
+  record Stepped (a b : List V) (rows : List (List V)) : Type 0 where
+    others : List (List V)
+    step : IsStep R a b rows others
+    parents : (x : List V) → Contains others x → (Contains rows x × HoldsOf R a b x) ⊎ ((v : List V) × (w : List V) × Contains rows v × Contains rows w × HoldsOf R a b v × (dot R b v ≢ R.zero) × (HoldsOf R a b w → ⊥) × (x ≡ mixed R a b v w))
+
+  stepped : (a b : List V) (rows : List (List V)) → Stepped a b rows
+  stepped a b rows = record {
+    others = kept.chosen ++ products (mixed R a b) (finite.chosen) (dropped.chosen);
+    step = record {
+      kept = λ v c h. Contains-append_left kept.chosen (products (mixed R a b) finite.chosen dropped.chosen) v (kept.there v c h);
+      mixes = λ v w cv cw hv f hw. Contains-append_right kept.chosen (products (mixed R a b) finite.chosen dropped.chosen) (mixed R a b v w) (Contains-products (mixed R a b) finite.chosen dropped.chosen v w (finite.there v cv (hv, f)) (dropped.there w cw hw));
+      only = λ x c. ⊎_elim (λ k. inl k) (λ m. inr (m.0, m.1, m.2, m.3, m.4, m.6, m.7)) (from_parents x c);
+    };
+    parents = from_parents;
+  }
+    where
+      holds : (v : List V) → Decided (HoldsOf R a b v)
+      holds v = laws.discrete (R.plus (dot R a v) (dot R b v)) (dot R b v)
+
+      kept : Chosen (HoldsOf R a b) rows
+      kept = chosen_of (HoldsOf R a b) holds rows
+
+      finite : Chosen (λ v. HoldsOf R a b v × (dot R b v ≢ R.zero)) rows
+      finite = chosen_of (λ v. HoldsOf R a b v × (dot R b v ≢ R.zero))
+          (λ v. ⊎_elim (λ h. ⊎_elim (λ z. inr (λ q. q.1 z)) (λ f. inl (h, f)) (laws.discrete (dot R b v) R.zero)) (λ nh. inr (λ q. nh q.0)) (holds v)) rows
+
+      dropped : Chosen (λ w. HoldsOf R a b w → ⊥) rows
+      dropped = chosen_of (λ w. HoldsOf R a b w → ⊥) (λ w. ⊎_elim (λ h. inr (λ f. f h)) (λ nh. inl nh) (holds w)) rows
+
+      from_parents : (x : List V) → Contains (kept.chosen ++ products (mixed R a b) (finite.chosen) (dropped.chosen)) x → (Contains rows x × HoldsOf R a b x) ⊎ ((v : List V) × (w : List V) × Contains rows v × Contains rows w × HoldsOf R a b v × (dot R b v ≢ R.zero) × (HoldsOf R a b w → ⊥) × (x ≡ mixed R a b v w))
+      from_parents x c = ⊎_elim
+          (λ k. inl (kept.back x k))
+          (λ m.
+          let r = from_products (mixed R a b) finite.chosen dropped.chosen x m in
+          let fv = finite.back r.0 r.2 in
+          let dw = dropped.back r.1 r.3 in
+          inr (r.0, r.1, fv.0, dw.0, fv.1.0, fv.1.1, dw.1, r.4))
+          (Contains-append_cases kept.chosen (products (mixed R a b) finite.chosen dropped.chosen) x c)
+
+  -- a multiple in normal form
+  normalises_from_multiple : (g x : List V) (c : V) → IsNormal R x → x ≡ scaled R c g → Normalises R g x
+  normalises_from_multiple g x c h e = record {
+    factor = c;
+    finite = left_factor_finite laws c (entry R g h.first) R.one (sym (entry-scaled laws c g h.first) ∙ ap (λ v. entry R v h.first) (sym e) ∙ h.is_one) laws.one_finite;
+    multiple = e;
+    normal = h;
+  }
+
+  -- a kept row stays extreme
+  pub kept_stays_extreme : (system : List (Inequality V)) (p : Inequality V) (v : List V) → IsIn n p → IsExtreme R (Solves R n system) v → HoldsOf R p.left p.right v → IsExtreme R (Solves R n (system ++ p ∷ [])) v
+  kept_stays_extreme system p v inside h holds =
+      IsExtreme-narrower (Solves R n system) (Solves R n (system ++ p ∷ [])) (λ x k. Solves-front n system p x k) v
+      (Solves-push n system p v h.member ((truth laws p.left p.right v (inside.left ∙ sym h.member.wide) (inside.right ∙ sym h.member.wide)).0 holds)) h
+
+  -- a mixed row solves the longer system
+  pub mixed_solves : (system : List (Inequality V)) (p : Inequality V) (rows : List (List V)) (v w x : List V) → IsIn n p → ((x : List V) → Solves R n system x ↔ IsCombination R n rows x) → Solves R n system v → Solves R n system w → All (λ g. length g ≡ n) rows → HoldsOf R p.left p.right v → (HoldsOf R p.left p.right w → ⊥) → Normalises R (mixed R p.left p.right v w) x → Solves R n (system ++ p ∷ []) x
+  mixed_solves system p rows v w x inside same sv sw wide hv hw m = Solves-push n system p x solves ((truth laws p.left p.right x (inside.left ∙ sym solves.wide) (inside.right ∙ sym solves.wide)).0 holds)
+    where
+      combination : IsCombination R n rows (mixed R p.left p.right v w)
+      combination = IsCombination-joined laws n rows _ _
+          (IsCombination-scaled laws n rows (dot R p.left w) v ((same v).0 sv))
+          (IsCombination-scaled laws n rows (dot R p.right v) w ((same w).0 sw))
+
+      solves : Solves R n system x
+      solves = (same x).1 (subst (IsCombination R n rows) (sym m.multiple) (IsCombination-scaled laws n rows m.factor (mixed R p.left p.right v w) combination))
+
+      holds : HoldsOf R p.left p.right x
+      holds = subst (HoldsOf R p.left p.right) (sym m.multiple) (HoldsOf-scaled laws p.left p.right (mixed R p.left p.right v w) m.factor
+          (HoldsOf-mixed laws p.left p.right v w (sv.wide ∙ sym sw.wide) hv
+          (⊎_elim (λ l. absurd (hw l)) (λ l. l) (le_total laws (dot R p.left w) (dot R p.right w)))))
+
+  -- what a list of kept rows and extreme candidates has to have
+  pub record IsNarrowed (system : List (Inequality V)) (p : Inequality V) (rows others : List (List V)) : Type 0 where
+    pub ascending : AllPairs (RowBelow R) others
+    pub normal : All (IsNormal R) others
+    pub extreme : All (IsExtreme R (Solves R n (system ++ p ∷ []))) others
+    pub kept : (v : List V) → Contains rows v → HoldsOf R p.left p.right v → Contains others v
+    pub mixes : (v w x : List V) → Contains rows v → Contains rows w → HoldsOf R p.left p.right v → dot R p.right v ≢ R.zero → (HoldsOf R p.left p.right w → ⊥) → Normalises R (mixed R p.left p.right v w) x → IsExtreme R (Solves R n (system ++ p ∷ [])) x → Contains others x
+
+  module _ (system : List (Inequality V)) (p : Inequality V) (rows others : List (List V)) (inside : IsIn n p) (canonical : IsCanonical R (Solves R n system) rows) (same : (x : List V) → Solves R n system x ↔ IsCombination R n rows x) where
+    wide : All (λ g. length g ≡ n) rows
+    wide k d l = (canonical.extreme k d l).member.wide
+
+    s : Stepped p.left p.right rows
+    s = stepped p.left p.right rows
+
+    length_mixed : (v w : List V) → length v ≡ n → length w ≡ n → length (mixed R p.left p.right v w) ≡ n
+    length_mixed v w lv lw = length-joined R _ _ n (length-map v (R.times (dot R p.left w)) ∙ lv) (length-map w (R.times (dot R p.right v)) ∙ lw)
+
+    wide_step : All (λ g. length g ≡ n) s.others
+    wide_step k d l = ⊎_elim
+        (λ q. All-contains (λ g. length g ≡ n) rows _ wide q.0)
+        (λ q. ap length q.7 ∙ length_mixed q.0 q.1 (All-contains (λ g. length g ≡ n) rows _ wide q.2) (All-contains (λ g. length g ≡ n) rows _ wide q.3))
+        (s.parents (get_or s.others k d) (Contains-get_or s.others k d l))
+
+    -- the step generates the smaller cone
+    step_generates : (x : List V) → Solves R n (system ++ p ∷ []) x ↔ IsCombination R n s.others x
+    step_generates x = (
+      λ h. (guard x).1 ((same x).0 (Solves-front n system p x h), (truth laws p.left p.right x (inside.left ∙ sym h.wide) (inside.right ∙ sym h.wide)).1 (Solves-last n system p x h)),
+      λ c. let g = (guard x).0 c in let h = (same x).1 g.0 in Solves-push n system p x h ((truth laws p.left p.right x (inside.left ∙ sym h.wide) (inside.right ∙ sym h.wide)).0 g.1),
+    )
+      where
+        guard : (x : List V) → IsCombination R n s.others x ↔ (IsCombination R n rows x × HoldsOf R p.left p.right x)
+        guard = step_is_guard laws n p.left p.right rows s.others wide wide_step s.step
+
+    narrowed_complete : IsNarrowed system p rows others → (x : List V) → IsNormal R x → IsExtreme R (Solves R n (system ++ p ∷ [])) x → Contains others x
+    narrowed_complete h x hx ex =
+        let found = multiple_from_extreme laws n s.others x wide_step (IsExtreme-same (Solves R n (system ++ p ∷ [])) (IsCombination R n s.others) step_generates x ex) in
+        let g = found.1 in
+        from_row g found.4.0 (found.0, found.2, get_or_default s.others found.0 g g found.2 ∙ found.3) found.4.1
+      where
+        from_row : (g : List V) (c : V) → Contains s.others g → x ≡ scaled R c g → Contains others x
+        from_row g c k e = ⊎_elim
+            (λ q. subst (Contains others) (sym (same_from_multiple laws n x g c hx (All-contains (IsNormal R) rows g canonical.normal q.0) e)) (h.kept g q.0 q.1))
+            (λ q. h.mixes q.0 q.1 x q.2 q.3 q.4 q.5 q.6 (normalises_from_multiple (mixed R p.left p.right q.0 q.1) x c hx (e ∙ ap (scaled R c) q.7)) ex)
+            (s.parents g k)
+
+    -- the kept rows and the extreme candidates, ascending, are the canonical list of the smaller cone
+    pub narrowed_canonical : IsNarrowed system p rows others → IsCanonical R (Solves R n (system ++ p ∷ [])) others
+    narrowed_canonical h = record {
+      ascending = h.ascending;
+      normal = h.normal;
+      extreme = h.extreme;
+      complete = narrowed_complete h;
+    }
+
+    -- and they generate it
+    pub narrowed_generates : IsNarrowed system p rows others → (x : List V) → Solves R n (system ++ p ∷ []) x ↔ IsCombination R n others x
+    narrowed_generates h = canonical_generates laws n (Solves R n (system ++ p ∷ [])) s.others others wide_step step_generates (narrowed_canonical h)
