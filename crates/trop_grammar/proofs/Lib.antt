@@ -1,0 +1,4 @@
+pub mod Laws
+pub mod Ends
+pub mod Whole
+pub mod Loops
