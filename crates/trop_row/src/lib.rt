@@ -1,0 +1,15 @@
+//! Rows, inequalities between sums of scaled coordinates, and lists of both: membership in the cone that rows
+//! generate, the canonical list of that cone, and the elementary step, which adds one inequality to it.
+//! Contracts see a row as the list of its elements. Everything is generic over the semiring.
+#![tactic(auto)]
+
+mod entries;
+mod gens;
+mod inequality;
+mod row;
+mod system;
+
+pub use gens::Gens;
+pub use inequality::Ineq;
+pub use row::Row;
+pub use system::System;
