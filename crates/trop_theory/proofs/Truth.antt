@@ -9,7 +9,7 @@ use Rattle.trop_theory.proofs.Order.{le_trans, le-plus_left, le-plus_right, plus
 
 module _ {V : Type 0} {R : Semiring V} (laws : SemiringLaws R) where
   -- a term is at most the sum
-  term_below : (c x : List V) → length c ≡ length x → (i : ℕ) → i < length x → Le R (R.times (entry R c i) (entry R x i)) (dot R c x)
+  pub term_below : (c x : List V) → length c ≡ length x → (i : ℕ) → i < length x → Le R (R.times (entry R c i) (entry R x i)) (dot R c x)
   term_below [] [] e i l = absurd (omega arith)
   term_below [] (b ∷ x) e i l = absurd (omega arith)
   term_below (a ∷ c) [] e i l = absurd (omega arith)
@@ -17,7 +17,7 @@ module _ {V : Type 0} {R : Semiring V} (laws : SemiringLaws R) where
   term_below (a ∷ c) (b ∷ x) e (suc i) l = le_trans laws _ _ _ (term_below c x (omega arith) i (omega arith)) (le-plus_right laws _ _)
 
   -- the sum is one of its terms
-  some_term : (c x : List V) → length c ≡ length x → 0 < length x → (j : ℕ) × (j < length x) × (dot R c x ≡ R.times (entry R c j) (entry R x j))
+  pub some_term : (c x : List V) → length c ≡ length x → 0 < length x → (j : ℕ) × (j < length x) × (dot R c x ≡ R.times (entry R c j) (entry R x j))
   some_term [] [] e l = absurd (omega arith)
   some_term [] (b ∷ x) e l = absurd (omega arith)
   some_term (a ∷ c) [] e l = absurd (omega arith)

@@ -1,0 +1,10 @@
+pub mod Tests
+pub mod Tallies
+pub mod Words
+pub mod Weakened
+pub mod Types
+pub mod Closures
+pub mod Extremes
+pub mod Edges
+pub mod Criterion
+pub mod SizeBound

@@ -1,0 +1,2 @@
+pub mod Hypergraphs
+pub mod Tangents
