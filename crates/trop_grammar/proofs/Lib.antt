@@ -2,3 +2,4 @@ pub mod Laws
 pub mod Ends
 pub mod Whole
 pub mod Loops
+pub mod ListLaws
