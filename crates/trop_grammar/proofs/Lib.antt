@@ -3,3 +3,4 @@ pub mod Ends
 pub mod Whole
 pub mod Loops
 pub mod ListLaws
+pub mod SeparatedLaws

@@ -1,14 +1,13 @@
 -- Lists are read right.
-use Rattle.std.proofs.Common.{◌≡◌, ◌≤◌, ℕ, zero, suc, List, [], ◌∷◌, ◌++◌, length, Option, Some, None, Result, Ok, Err, refl, sym, ap, subst, ◌∙◌, append_assoc, arith}
+use Rattle.std.proofs.Common.{◌≡◌, ◌≤◌, ℕ, zero, suc, List, [], ◌∷◌, ◌++◌, length, Option, Some, None, Result, Ok, refl, sym, ap, subst, ◌∙◌, append_assoc, arith}
 use Rattle.std.proofs.lemmas.List.{append-nil}
-use Rattle.trop_grammar.specs.Reading.{Reading, read_then, gives, token_at, until_at, Next, More, Done}
+use Rattle.trop_grammar.specs.Reading.{Reading, token_at, Next, More, Done}
 use Rattle.trop_grammar.specs.Grammar.{One, Empty, Then, Until, Further}
 use Rattle.trop_grammar.specs.Reads.{Reads, Anything, Judges}
 use Rattle.trop_grammar.specs.Lists.{Passes, item_or_end, list_step, list_last, list_at, Item, EndsList, AreItems, Listed}
 use Rattle.trop_grammar.proofs.Laws.{Reads-then, Reads-same, Reads-gives, Reads-token, Reads-until}
 
 module _ {T W : Type 0} where
-
   -- a judge and the tokens that it lets pass
   pub Judges-passes : {A : Type 0} (judge : T → Result A W) (t : T) (x : A) → judge t ≡ Ok x → Judges judge (Passes judge)
   Judges-passes judge t x e = record { token = t; value = x; passes = e; to = λ u y h. h; from = λ u y h. h }
@@ -25,7 +24,6 @@ module _ {T W : Type 0} where
     pub last_from : (xs : List A) (t : T) → start xs t ≡ Ok None → last xs t ≡ Ok tt
 
 module _ {T W A C : Type 0} (missing : W) (start : List A → T → Result (Option C) W) (item : List A → C → List T → Reading T W A) (last : List A → T → Result (Unit {0}) W) (Rest : List A → C → List T → A → Type 0) (parts : AreParts start item last Rest) where
-
   abbrev ItemOrEnd : List A → Option C → List T → Next (List A) (List A) → Type 0
   ItemOrEnd xs None = Empty (Done xs)
   ItemOrEnd xs (Some c) = Then (Rest xs c) (λ x. Empty (More (xs ++ x ∷ [])))
@@ -81,7 +79,9 @@ module _ {T W A C : Type 0} (missing : W) (start : List A → T → Result (Opti
   step_at before None vs fs bs t next whole first e h = AtEnd t (rw (whole, first, h.none) refl) e h.is
   step_at before (Some c) vs fs bs t next whole first e h =
       AtItem h.value (record {
-        front = fs; back = h.front; value = c;
+        front = fs;
+        back = h.front;
+        value = c;
         whole = whole ∙ ap (λ (z : List T). fs ++ z) (h.whole ∙ ap (λ (z : List T). h.front ++ z) h.second.none ∙ append-nil h.front);
         first = record { token = t; whole = first; is = e };
         second = h.first;
@@ -115,17 +115,24 @@ module _ {T W A C : Type 0} (missing : W) (start : List A → T → Result (Opti
   until_from : (n : ℕ) (before : List A) (us : List T) (all xs : List A) (items : List T) (end : T) → all ≡ before ++ xs → us ≡ items ++ end ∷ [] → AreItems (Item start Rest) before items xs → start (before ++ xs) end ≡ Ok None → length xs ≤ n → Until Step Last n before us all
   unfolding Until
   until_from zero before us all [] items end is whole are ends count = record {
-    front = end ∷ []; back = []; value = tt;
+    front = end ∷ [];
+    back = [];
+    value = tt;
     whole = rw (whole, are) refl;
     first = record { token = end; whole = refl; is = parts.last_from before end (ap (λ z. start z end) (sym (append-nil before)) ∙ ends) };
     second = record { none = refl; is = is ∙ append-nil before };
   }
   until_from zero before us all (x ∷ xs) items end is whole are ends count = absurd (omega (arith, count))
   until_from (suc n) before us all [] items end is whole are ends count = record {
-    front = end ∷ []; back = []; value = Done before;
+    front = end ∷ [];
+    back = [];
+    value = Done before;
     whole = rw (whole, are) refl;
     first = record {
-      front = end ∷ []; back = []; value = None; whole = refl;
+      front = end ∷ [];
+      back = [];
+      value = None;
+      whole = refl;
       first = record { token = end; whole = refl; is = ap (λ z. start z end) (sym (append-nil before)) ∙ ends };
       second = record { none = refl; is = refl };
     };
@@ -136,10 +143,15 @@ module _ {T W A C : Type 0} (missing : W) (start : List A → T → Result (Opti
       let vs = are.0 in
       let ws = are.1 in
       record {
-        front = vs; back = ws ++ end ∷ []; value = More (before ++ x ∷ []);
+        front = vs;
+        back = ws ++ end ∷ [];
+        value = More (before ++ x ∷ []);
         whole = whole ∙ ap (λ (z : List T). z ++ end ∷ []) are.2 ∙ append_assoc vs ws (end ∷ []);
         first = record {
-          front = line.front; back = line.back; value = Some line.value; whole = line.whole;
+          front = line.front;
+          back = line.back;
+          value = Some line.value;
+          whole = line.whole;
           first = record { token = line.first.token; whole = line.first.whole; is = line.first.is };
           second = record { front = line.back; back = []; value = x; whole = sym (append-nil line.back); first = line.second; second = record { none = refl; is = refl } };
         };
@@ -150,7 +162,7 @@ module _ {T W A C : Type 0} (missing : W) (start : List A → T → Result (Opti
   unfolding list_at
   Reads-list n = Reads-same
       (λ us all h. let k = until_to n [] us all h in
-          let e : all ≡ k.xs = k.is in
-          record { items = k.items; end = k.end; whole = k.whole; are = subst (λ z. AreItems (Item start Rest) [] k.items z) (sym e) k.are; ends = ap (λ z. start z k.end) e ∙ k.ends; count = subst (λ z. length z ≤ n) (sym e) k.count })
+      let e : all ≡ k.xs = k.is in
+      record { items = k.items; end = k.end; whole = k.whole; are = subst (λ z. AreItems (Item start Rest) [] k.items z) (sym e) k.are; ends = ap (λ z. start z k.end) e ∙ k.ends; count = subst (λ z. length z ≤ n) (sym e) k.count })
       (λ us all h. until_from n [] us all all h.items h.end refl h.whole h.are h.ends h.count)
       (Reads-until step_reads last_reads n [])

@@ -1,5 +1,5 @@
 -- Lists in a text: one item after another until a token ends the list.
-use Rattle.std.specs.Prelude.{◌≡◌, ◌≤◌, ℕ, List, [], ◌∷◌, ◌++◌, length, Option, Some, None, Result, Ok}
+use Rattle.std.specs.Prelude.{◌≡◌, ◌≤◌, ℕ, List, [], ◌∷◌, ◌++◌, length, Bool, true, false, Option, Some, None, Result, Ok}
 use Rattle.trop_grammar.specs.Reading.{Reading, ◌>>=◌, gives, token_at, until_at, Next, More, Done}
 use Rattle.trop_grammar.specs.Grammar.{One, Then}
 
@@ -48,3 +48,33 @@ pub record Listed {T A : Type 0} (Line : List A → List T → A → Type 0) (En
   pub are : AreItems Line [] items xs
   pub ends : End xs end
   pub count : length xs ≤ n
+
+-- ---- items with a separator between them
+
+abbrev pub next_of : {A : Type 0} → Bool → A → Next A A
+next_of true xs = More xs
+next_of false xs = Done xs
+
+unfoldable pub separated_step : {T W A : Type 0} → W → (List T → Reading T W A) → (T → Result Bool W) → List A → List T → Reading T W (Next (List A) (List A))
+separated_step missing item between xs = item >>= λ x. token_at missing between >>= λ more. gives (next_of more (xs ++ x ∷ []))
+
+unfoldable pub separated_last : {T W A : Type 0} → W → (List T → Reading T W A) → (T → Result (Unit {0}) W) → List A → List T → Reading T W (List A)
+separated_last missing item close xs = item >>= λ x. token_at missing close >>= λ u. gives (xs ++ x ∷ [])
+
+-- An item and n more at most, each with a token behind it: one that `between` lets pass as true, or, behind the last
+-- item, as false. Behind the last item that may be `close` judges the token.
+unfoldable pub separated_at : {T W A : Type 0} → W → (List T → Reading T W A) → (T → Result Bool W) → (T → Result (Unit {0}) W) → ℕ → List A → List T → Reading T W (List A)
+separated_at missing item between close n xs = until_at (separated_step missing item between) (separated_last missing item close) n xs
+
+-- the item x, and behind it the others, each after a separator, and a token that closes the list
+abbrev pub AreSeparated : {T A : Type 0} → (List T → A → Type 0) → (T → Bool → Type 0) → A → List T → List A → Type 0
+AreSeparated {T} Line Between x us [] = (vs : List T) × (t : T) × (us ≡ vs ++ t ∷ []) × Line vs x × Between t false
+AreSeparated {T} Line Between x us (y ∷ ys) = (vs ws : List T) × (t : T) × (us ≡ vs ++ t ∷ ws) × Line vs x × Between t true × AreSeparated Line Between y ws ys
+
+-- an item and n more at most
+pub record Separated {T A : Type 0} (Line : List T → A → Type 0) (Between : T → Bool → Type 0) (n : ℕ) (us : List T) (all : List A) : Type 0 where
+  pub first : A
+  pub others : List A
+  pub is : all ≡ first ∷ others
+  pub are : AreSeparated Line Between first us others
+  pub count : length others ≤ n
