@@ -1,2 +1,5 @@
 pub mod Distinct
 pub mod Ascii
+pub mod Skips
+pub mod LineEnds
+pub mod Numbers

@@ -1,3 +1,10 @@
 pub mod Bytes
 pub mod Name
 pub mod Names
+pub mod Tokens
+pub mod Lines
+pub mod Lexer
+pub mod Pieces
+pub mod Faults
+pub mod Places
+pub mod Digits

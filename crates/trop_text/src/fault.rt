@@ -34,6 +34,30 @@ pub enum FaultKind {
     ReportFault,
 }
 
+impl FaultKind {
+    ghost use Rattle.trop_text.specs.Faults as spec;
+
+    /// The fault of this kind at a line and a column, of which all but a syntax fault keep the line alone.
+    pub fn at(self, line: u32, column: u32) -> Fault
+        ensures { result ≡ spec.fault self line column }
+    {
+        match self {
+            FaultKind::Syntax => Fault::Syntax { line, column },
+            FaultKind::NumberRange => Fault::NumberRange { line },
+            FaultKind::UnknownName => Fault::UnknownName { line },
+            FaultKind::DuplicateName => Fault::DuplicateName { line },
+            FaultKind::TooManyVars => Fault::TooManyVars { line },
+            FaultKind::TooManyLines => Fault::TooManyLines { line },
+            FaultKind::WrongKind => Fault::WrongKind { line },
+            FaultKind::TooManyStatements => Fault::TooManyStatements { line },
+            FaultKind::TooManyAtoms => Fault::TooManyAtoms { line },
+            FaultKind::TooDeep => Fault::TooDeep { line },
+            FaultKind::AssertMode => Fault::AssertMode { line },
+            FaultKind::ReportFault => Fault::ReportFault { line },
+        }
+    }
+}
+
 /// The first fault of a text. Lines and columns count from 1, columns in bytes.
 #[derive(Clone, Copy, Debug, PartialEq, Eq, Error)]
 pub enum Fault {

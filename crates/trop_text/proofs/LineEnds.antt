@@ -1,0 +1,21 @@
+-- Where a line ends.
+use Rattle.std.proofs.Common.{◌≡◌, ◌≢◌, ◌⊎◌, inl, inr, ℕ, zero, suc, false, List, [], ◌∷◌, refl, nat_eq}
+use Rattle.std.proofs.lemmas.Bool.{ne_eqb}
+use Rattle.trop_text.specs.Tokens.{Tok, tokens_at, tokens_past}
+use Rattle.trop_text.specs.Lexer.{BeginWithToken}
+use Rattle.trop_text.specs.Pieces.{LineEnd, pieces_from}
+
+-- the first token is of another line than the one that was begun
+other_line : (t : Tok) (ts : List Tok) (line : ℕ) → nat_eq line 0 ≡ false → nat_eq t.line line ≡ false → pieces_from (t ∷ ts) line ≡ LineEnd line ∷ pieces_from (t ∷ ts) 0
+unfolding pieces_from
+other_line t ts line begun other = rw (begun, other) refl
+
+-- at a token, where none is left, or that is of another line than the one that was begun, that line is at its end
+pub line_over : (rest : List ℕ) (at column line : ℕ) → BeginWithToken rest → line ≢ 0 → (rest ≡ []) ⊎ (at ≢ line)
+    → pieces_from (tokens_at rest at column) line ≡ LineEnd line ∷ pieces_from (tokens_at rest at column) 0
+unfolding tokens_past pieces_from
+line_over [] at column zero begins begun why = absurd (begun refl)
+line_over [] at column (suc line) begins begun why = refl
+line_over (b ∷ bs) at column line begins begun (inl none) = absurd cc
+line_over (b ∷ bs) at column line begins begun (inr other) =
+    rw (begins.0, begins.1, begins.2) (other_line _ _ line (ne_eqb line 0 begun) (ne_eqb at line other))
