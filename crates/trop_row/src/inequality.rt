@@ -1,4 +1,4 @@
-ghost use Rattle.std.specs.Prelude.{◌≡◌, ◌+◌, ◌^◌, ◌≤◌, ◌↔◌, IsTrue, IsOk, IfOk, length};
+ghost use Rattle.std.specs.Prelude.{◌≡◌, ◌+◌, ◌^◌, ◌≤◌, ◌↔◌, IsTrue, IfOk, length};
 ghost use Rattle.trop_theory.specs.Vectors.{row_size};
 ghost use Rattle.trop_theory.specs.Inequalities.{Inequality, IsTrueAt, inequality_size};
 
@@ -58,7 +58,6 @@ impl<S: Scalar> Ineq<S> {
     pub fn copy(&self, alloc: Global) -> Result<Ineq<S>, NoMemory>
         ensures left { IfOk result (λ ineq. ineq.left ≡ self.now.left) }
         ensures right { IfOk result (λ ineq. ineq.right ≡ self.now.right) }
-        ensures short { length self.now.left ≤ 8 → IsOk result }
     {
         Ok(Ineq {
             left: self.left.copy(alloc)?,

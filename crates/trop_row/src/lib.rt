@@ -6,10 +6,14 @@
 mod entries;
 mod gens;
 mod inequality;
+mod membership;
+mod reduction;
 mod row;
 mod system;
 
 pub use gens::Gens;
 pub use inequality::Ineq;
+pub use membership::member;
+pub use reduction::reduce;
 pub use row::Row;
 pub use system::System;

@@ -1,4 +1,4 @@
-ghost use Rattle.std.specs.Prelude.{◌≡◌, ◌+◌, ◌^◌, ◌<◌, ◌≤◌, ℕ, length, slice_set, IsOk, IfOk, refl};
+ghost use Rattle.std.specs.Prelude.{◌≡◌, ◌+◌, ◌^◌, ◌<◌, ◌≤◌, ℕ, length, slice_set, IfOk, refl};
 ghost use Rattle.std.specs.Bool.{OnTrue, OnFalse};
 ghost use Rattle.std.specs.Cmp.{partial_equiv_from_equiv, partial_order_from_total};
 ghost use Rattle.std.specs.Ordering.{eq_by_cmp, as_partial_cmp};
@@ -9,7 +9,6 @@ ghost use Rattle.trop_theory.specs.Compare.{compare_rows};
 ghost use Rattle.trop_theory.proofs.CompareLaws.{compare_rows_total};
 
 use crate::entries::{compare_entries, join_all, normalise_all, put, scale_all};
-use smallvec::SmallVec;
 use std::alloc::{AllocError, Global};
 use std::cmp::Ordering;
 use std::marker::Model;
@@ -17,12 +16,12 @@ use trop_scalar::Scalar;
 
 type NoMemory = AllocError;
 
-/// A vector of at most 64 elements. Up to 8 lie in the value itself, so that short rows need no memory.
+/// A vector of at most 64 elements.
 ///
 /// Rows are ordered by the first entry that differs, in the semiring's order; a proper prefix stands first.
 #[derive(Drop)]
 pub struct Row<S: Scalar> {
-    entries: SmallVec<S, 8>,
+    entries: Vec<S>,
 }
 
 impl<S: Scalar> Model for Row<S> {
@@ -40,10 +39,9 @@ impl<S: Scalar> Row<S> {
     pub fn from_entries(alloc: Global, entries: &[S]) -> Result<Row<S>, NoMemory>
         requires { length entries.now ≤ 64 }
         ensures entries { IfOk result (λ row. row ≡ entries.now) }
-        ensures short { length entries.now ≤ 8 → IsOk result }
     {
         Ok(Row {
-            entries: SmallVec::from_slice(alloc, entries)?,
+            entries: Vec::from_slice(alloc, entries)?,
         })
     }
 
@@ -51,11 +49,10 @@ impl<S: Scalar> Row<S> {
     pub fn bottom(alloc: Global, n: u32) -> Result<Row<S>, NoMemory>
         requires { n ≤ 64 }
         ensures entries { IfOk result (λ row. row ≡ bottom S.ring n) }
-        ensures short { n ≤ 8 → IsOk result }
     {
-        let mut entries = SmallVec::with_capacity(alloc, n as usize)?;
+        let mut entries = Vec::new(alloc);
         for k in 0..n {
-            entries.push_reserved(S::zero());
+            entries.push(S::zero())?;
         }
         Ok(Row { entries })
     }
@@ -65,7 +62,6 @@ impl<S: Scalar> Row<S> {
         requires within { i < n }
         requires at_most { n ≤ 64 }
         ensures entries { IfOk result (λ row. row ≡ slice_set (bottom S.ring n) i S.ring.one) }
-        ensures short { n ≤ 8 → IsOk result }
     {
         let mut row = Row::bottom(alloc, n)?;
         row.set(i, S::one());
@@ -75,10 +71,9 @@ impl<S: Scalar> Row<S> {
     /// A row of the same entries.
     pub fn copy(&self, alloc: Global) -> Result<Row<S>, NoMemory>
         ensures same { IfOk result (λ row. row ≡ self.now) }
-        ensures short { length self.now ≤ 8 → IsOk result }
     {
         Ok(Row {
-            entries: SmallVec::from_slice(alloc, self.entries.as_slice())?,
+            entries: Vec::from_slice(alloc, self.entries.as_slice())?,
         })
     }
 

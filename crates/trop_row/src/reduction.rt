@@ -1,0 +1,120 @@
+ghost use Rattle.std.specs.Prelude.{◌≡◌, ◌≢◌, ◌^◌, ◌<◌, ◌≤◌, ◌↔◌, List, IsTrue, IsFalse, IfOk, length, All, Any, AllPairs, remove, slice_index_or};
+ghost use Rattle.trop_theory.specs.Vectors.{entry, row_size, rows_size, AreWide};
+ghost use Rattle.trop_theory.specs.Normal.{IsNormal};
+ghost use Rattle.trop_theory.specs.Combinations.{IsCombination, SameCone, AreIndependent};
+ghost use Rattle.trop_theory.specs.Canonical.{RowBelow, IsCanonical};
+ghost use Rattle.trop_theory.specs.Residual.{Meets};
+ghost use Rattle.trop_row.specs.Reduction.{AreReducible, NormalRows};
+
+use crate::entries::is_zero;
+use crate::gens::Gens;
+use crate::membership::some_meets;
+use crate::row::Row;
+use std::alloc::{AllocError, Global};
+use trop_scalar::Scalar;
+
+type NoMemory = AllocError;
+
+// Whether a multiple of some row but that at k lies below the target and meets its entry t.
+fn others_meet<S: Scalar>(rows: &[Row<S>], k: usize, target: &[S], t: usize) -> bool
+    requires at { k < length rows.now }
+    requires wide { AreWide (length target.now) rows.now }
+    requires within { t < length target.now }
+    requires finite { entry S.ring target.now t ≢ S.ring.zero }
+    requires row_sizes { rows_size S.ring rows.now ≤ 2 ^ 60 }
+    requires target_size { row_size S.ring target.now ≤ 2 ^ 60 }
+    ensures { IsTrue result ↔ Any (Meets S.ring target.now t) (remove rows.now k) }
+{
+    some_meets(&rows[..k], target, t) || some_meets(&rows[k + 1..], target, t)
+}
+
+// Whether the row at k is a combination of the others.
+fn depends<S: Scalar>(rows: &[Row<S>], k: usize, n: u32) -> bool
+    requires within { k < length rows.now }
+    requires wide { AreWide n rows.now }
+    requires sizes { rows_size S.ring rows.now ≤ 2 ^ 60 }
+    ensures yes { IsTrue result → (d : List S) → IsCombination S.ring n (remove rows.now k) (slice_index_or rows.now k d) }
+    ensures no { IsFalse result → (d : List S) → IsCombination S.ring n (remove rows.now k) (slice_index_or rows.now k d) → ⊥ }
+{
+    let row = &rows[k];
+    let target = row.as_slice();
+    for t in 0..target.len() {
+        if !is_zero(target[t]) && !others_meet(rows, k, target, t) {
+            return false;
+        }
+    }
+    true
+}
+
+// Takes out, one after another, the rows that the others give.
+fn drop_combinations<S: Scalar>(rows: &mut Vec<Row<S>>, n: u32)
+    requires wide { AreWide n rows.old.items }
+    requires sizes { rows_size S.ring rows.old.items ≤ 2 ^ 60 }
+    requires normal { All (IsNormal S.ring) rows.old.items }
+    requires ascending { AllPairs (RowBelow S.ring) rows.old.items }
+    ensures wide { AreWide n rows.new.items }
+    ensures normal { All (IsNormal S.ring) rows.new.items }
+    ensures ascending { AllPairs (RowBelow S.ring) rows.new.items }
+    ensures independent { AreIndependent S.ring n rows.new.items (length rows.new.items) }
+    ensures same { (x : List S) → IsCombination S.ring n rows.old.items x ↔ IsCombination S.ring n rows.new.items x }
+    ensures fewer { length rows.new.items ≤ length rows.old.items }
+{
+    let mut k = 0;
+    while k < rows.len() {
+        if depends(rows.as_slice(), k, n) {
+            let _row = rows.remove(k);
+        } else {
+            k += 1;
+        }
+    }
+}
+
+// The rows other than bottom, in normal form.
+fn normal_rows<S: Scalar>(alloc: Global, rows: &[Row<S>], n: u32) -> Result<Vec<Row<S>>, NoMemory>
+    requires wide { AreWide n rows.now }
+    requires sizes { AreReducible S.ring rows.now }
+    ensures { IfOk result (λ out. NormalRows S.ring n rows.now out.items) }
+{
+    let mut out = Vec::new(alloc);
+    for row in rows {
+        let mut next = row.copy(alloc)?;
+        if next.normalise() {
+            out.push(next)?;
+        }
+    }
+    Ok(out)
+}
+
+// Sorts the rows and leaves out repeats.
+fn sort_rows<S: Scalar>(rows: &mut Vec<Row<S>>, n: u32) -> Result<(), NoMemory>
+    requires wide { AreWide n rows.old.items }
+    requires sizes { rows_size S.ring rows.old.items ≤ 2 ^ 60 }
+    requires normal { All (IsNormal S.ring) rows.old.items }
+    ensures wide { IfOk result (λ _. AreWide n rows.new.items) }
+    ensures sizes { IfOk result (λ _. rows_size S.ring rows.new.items ≤ 2 ^ 60) }
+    ensures normal { IfOk result (λ _. All (IsNormal S.ring) rows.new.items) }
+    ensures ascending { IfOk result (λ _. AllPairs (RowBelow S.ring) rows.new.items) }
+    ensures fewer { IfOk result (λ _. length rows.new.items ≤ length rows.old.items) }
+    ensures same { IfOk result (λ _. SameCone S.ring n rows.old.items rows.new.items) }
+{
+    rows.sort()?;
+    rows.dedup();
+    Ok(())
+}
+
+/// The canonical list of the combinations of the rows: their extreme vectors in normal form, ascending, without
+/// repeats. None of them is a combination of the others, and together they have the same combinations as the rows.
+pub fn reduce<S: Scalar>(alloc: Global, gens: &Gens<S>) -> Result<Gens<S>, NoMemory>
+    requires sizes { AreReducible S.ring gens.now.rows }
+    ensures width { IfOk result (λ out. out.n ≡ gens.now.n) }
+    ensures canonical { IfOk result (λ out. IsCanonical S.ring (IsCombination S.ring gens.now.n gens.now.rows) out.rows) }
+    ensures same { IfOk result (λ out. (x : List S) → IsCombination S.ring gens.now.n gens.now.rows x ↔ IsCombination S.ring gens.now.n out.rows x) }
+    ensures independent { IfOk result (λ out. AreIndependent S.ring gens.now.n out.rows (length out.rows)) }
+    ensures fewer { IfOk result (λ out. length out.rows ≤ length gens.now.rows) }
+{
+    let n = gens.n();
+    let mut rows = normal_rows(alloc, gens.as_slice(), n)?;
+    sort_rows(&mut rows, n)?;
+    drop_combinations(&mut rows, n);
+    Ok(Gens::from_rows(n, rows))
+}
