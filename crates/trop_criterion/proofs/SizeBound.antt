@@ -12,7 +12,7 @@ use Rattle.trop_theory.specs.Inequalities.{Inequality, IsIn, Solves, system_size
 use Rattle.trop_theory.specs.Extreme.{IsExtreme}
 use Rattle.trop_theory.proofs.Order.{undo_times, redo_times, times_one}
 use Rattle.trop_criterion.proofs.Closures.{distance, distance_over, quotient_over}
-use Rattle.trop_criterion.proofs.Criterion.{All-system_size, IsGreatest, closure_at, greatest_from_extreme}
+use Rattle.trop_criterion.proofs.Criterion.{All-system_size, IsReachedFromAll, closure_at, reached_from_extreme}
 
 -- two stretches of m for each of n - 1 steps
 two_ways : (d e m n : ℕ) → 1 ≤ n → d + 2 * m ≤ 2 * m * n → e + 2 * m ≤ 2 * m * n → d + e ≤ 4 * m * (n - 1)
@@ -36,7 +36,7 @@ module _ {V : Type 0} {R : Semiring V} (laws : SemiringLaws R) where
   distance_one a = ap R.size (ap (R.times a) (sym (laws.one_neutral (R.inverse R.one)) ∙ laws.invertible R.one laws.one_finite) ∙ times_one laws a)
 
   module _ (n m : ℕ) (system : List (Inequality V)) (x : List V) (inside : All (IsIn n) system) (bounded : system_size R system ≤ m) (extreme : IsExtreme R (Solves R n system) x) where
-    near : (t : ℕ) → IsGreatest R system x t → (i : ℕ) → entry R x i ≢ R.zero → distance laws (entry R x i) (entry R x t) + 2 * m ≤ 2 * m * n
+    near : (t : ℕ) → IsReachedFromAll R system x t → (i : ℕ) → entry R x i ≢ R.zero → distance laws (entry R x i) (entry R x t) + 2 * m ≤ 2 * m * n
     near t g i f =
         let wide : length x ≡ n = extreme.member.wide in
         let c = closure_at laws n system x inside m (All-system_size R system m bounded) wide i f in
@@ -45,7 +45,7 @@ module _ {V : Type 0} {R : Semiring V} (laws : SemiringLaws R) where
     -- two finite entries of an extreme solution
     pub extreme_entries_near : (i j : ℕ) → entry R x i ≢ R.zero → entry R x j ≢ R.zero → R.size (R.times (entry R x i) (R.inverse (entry R x j))) ≤ 4 * m * (n - 1)
     extreme_entries_near i j f g =
-        let r = greatest_from_extreme laws n system x inside extreme in
+        let r = reached_from_extreme laws n system x inside extreme in
         let l : i < length x = ⊎_elim (λ l. l) (λ l. absurd (f (get_or_past x i R.zero l))) (cases_lt i (length x)) in
         let wide : length x ≡ n = extreme.member.wide in
         omega (
