@@ -1,6 +1,8 @@
 pub mod Tests
 pub mod Tallies
 pub mod Words
+pub mod Counts
+pub mod Growth
 pub mod Weakened
 pub mod Types
 pub mod Closures

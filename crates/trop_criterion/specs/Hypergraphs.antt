@@ -1,7 +1,7 @@
 -- Directed hypergraphs: each hyperedge leads from a set of nodes, its tail, to a set of nodes, its head.
 -- Gallo, Longo, Pallottino, Nguyen: Directed hypergraphs and applications (1993); Allamigeon, Gaubert, Goubault: The
 -- tropical double description method (2010).
-use Rattle.std.specs.Prelude.{◌≡◌, ◌+◌, ℕ, zero, suc, Bool, List, All, IsTrue}
+use Rattle.std.specs.Prelude.{◌≡◌, ℕ, Bool, List, All, IsTrue}
 use Rattle.std.specs.Int.{bit_at}
 
 -- number i is in the set whose members are the places of the ones of the word

@@ -1,5 +1,5 @@
 -- What the operations on words do to the sets that they stand for.
-use Rattle.std.proofs.Common.{◌≡◌, ◌⊎◌, ◌<◌, ◌≤◌, ◌+◌, ◌-◌, ◌*◌, ◌%◌, ◌^◌, ℕ, inl, inr, ⊎_elim, sym, ap, ◌∙◌, refl, subst, arith, min, max, bit_and, bit_or, w64, eq-eqb}
+use Rattle.std.proofs.Common.{◌≡◌, ◌⊎◌, ◌<◌, ◌-◌, ◌*◌, ◌%◌, ◌^◌, ℕ, inl, inr, ⊎_elim, sym, ap, ◌∙◌, subst, arith, bit_and, bit_or, w64, eq-eqb}
 use Rattle.std.specs.Prelude.{◌↔◌, IsTrue, nat_eq}
 use Rattle.std.specs.Int.{bit_at, trailing_zeros}
 use Rattle.std.proofs.lemmas.Bool.{cases_lt, cases_eq, eqb-true}
