@@ -15,3 +15,5 @@ pub mod Generation
 pub mod Narrower
 pub mod Distinct
 pub mod Units
+pub mod StepLists
+pub mod Unique

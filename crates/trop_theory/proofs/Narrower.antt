@@ -29,17 +29,17 @@ pub record Chosen {X : Type 0} (P : X → Type 0) (xs : List X) : Type 0 where
   pub back : (x : X) → Contains chosen x → Contains xs x × P x
 
 module _ {X : Type 0} where
-  Contains-cons : (y : X) (xs : List X) (x : X) → Contains xs x → Contains (y ∷ xs) x
+  pub Contains-cons : (y : X) (xs : List X) (x : X) → Contains xs x → Contains (y ∷ xs) x
   Contains-cons y xs x h = (suc h.0, omega (arith, h.1), h.2)
 
-  Contains-cons_cases : (y : X) (xs : List X) (x : X) → Contains (y ∷ xs) x → (y ≡ x) ⊎ Contains xs x
+  pub Contains-cons_cases : (y : X) (xs : List X) (x : X) → Contains (y ∷ xs) x → (y ≡ x) ⊎ Contains xs x
   Contains-cons_cases y xs x h = at h.0 h.1 h.2
     where
       at : (k : ℕ) → k < length (y ∷ xs) → get_or (y ∷ xs) k x ≡ x → (y ≡ x) ⊎ Contains xs x
       at zero l e = inl e
       at (suc k) l e = inr (k, omega arith, e)
 
-  Contains-none : (x : X) → Contains [] x → ⊥
+  pub Contains-none : (x : X) → Contains [] x → ⊥
   Contains-none x h = let l = h.1 in omega arith
 
   pub chosen_of : (P : X → Type 0) → ((x : X) → Decided (P x)) → (xs : List X) → Chosen P xs
@@ -122,12 +122,12 @@ module _ {V : Type 0} {R : Semiring V} where
 
 module _ {V : Type 0} {R : Semiring V} (laws : SemiringLaws R) (n : ℕ) where
   -- the rows that the elementary step gives, with the mixed rows by their parents
-  record Stepped (a b : List V) (rows : List (List V)) : Type 0 where
-    others : List (List V)
-    step : IsStep R a b rows others
-    parents : (x : List V) → Contains others x → (Contains rows x × HoldsOf R a b x) ⊎ ((v : List V) × (w : List V) × Contains rows v × Contains rows w × HoldsOf R a b v × (dot R b v ≢ R.zero) × (HoldsOf R a b w → ⊥) × (x ≡ mixed R a b v w))
+  pub record Stepped (a b : List V) (rows : List (List V)) : Type 0 where
+    pub others : List (List V)
+    pub step : IsStep R a b rows others
+    pub parents : (x : List V) → Contains others x → (Contains rows x × HoldsOf R a b x) ⊎ ((v : List V) × (w : List V) × Contains rows v × Contains rows w × HoldsOf R a b v × (dot R b v ≢ R.zero) × (HoldsOf R a b w → ⊥) × (x ≡ mixed R a b v w))
 
-  stepped : (a b : List V) (rows : List (List V)) → Stepped a b rows
+  pub stepped : (a b : List V) (rows : List (List V)) → Stepped a b rows
   stepped a b rows = record {
     others = kept.chosen ++ products (mixed R a b) (finite.chosen) (dropped.chosen);
     step = record {

@@ -8,4 +8,5 @@ pub mod Combinations
 pub mod Extreme
 pub mod Canonical
 pub mod Steps
+pub mod StepList
 pub mod Residual
