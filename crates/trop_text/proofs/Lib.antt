@@ -3,3 +3,8 @@ pub mod Ascii
 pub mod Skips
 pub mod LineEnds
 pub mod Numbers
+pub mod Positions
+pub mod Signs
+pub mod Longest
+pub mod Lexing
+pub mod Feeds

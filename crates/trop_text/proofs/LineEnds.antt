@@ -1,9 +1,9 @@
 -- Where a line ends.
-use Rattle.std.proofs.Common.{◌≡◌, ◌≢◌, ◌⊎◌, inl, inr, ℕ, zero, suc, false, List, [], ◌∷◌, refl, nat_eq}
+use Rattle.std.proofs.Common.{◌≡◌, ◌≢◌, ◌⊎◌, inl, inr, ◌||◌, ap, ℕ, zero, suc, Bool, true, false, List, [], ◌∷◌, refl, nat_eq}
 use Rattle.std.proofs.lemmas.Bool.{ne_eqb}
 use Rattle.trop_text.specs.Tokens.{Tok, tokens_at, tokens_past}
 use Rattle.trop_text.specs.Lexer.{BeginWithToken}
-use Rattle.trop_text.specs.Pieces.{LineEnd, pieces_from}
+use Rattle.trop_text.specs.Pieces.{LineEnd, ends_from, pieces_from, tokens_in}
 
 -- the first token is of another line than the one that was begun
 other_line : (t : Tok) (ts : List Tok) (line : ℕ) → nat_eq line 0 ≡ false → nat_eq t.line line ≡ false → pieces_from (t ∷ ts) line ≡ LineEnd line ∷ pieces_from (t ∷ ts) 0
@@ -19,3 +19,17 @@ line_over [] at column (suc line) begins begun why = refl
 line_over (b ∷ bs) at column line begins begun (inl none) = absurd cc
 line_over (b ∷ bs) at column line begins begun (inr other) =
     rw (begins.0, begins.1, begins.2) (other_line _ _ line (ne_eqb line 0 begun) (ne_eqb at line other))
+
+no_token_behind : (line : ℕ) → tokens_in (ends_from line) ≡ []
+no_token_behind zero = refl
+no_token_behind (suc line) = refl
+
+-- the pieces have the tokens, all and in order
+pub tokens_stay : (ts : List Tok) (line : ℕ) → tokens_in (pieces_from ts line) ≡ ts
+unfolding pieces_from
+tokens_stay [] line = no_token_behind line
+tokens_stay (t ∷ ts) line = by (nat_eq line 0 || nat_eq t.line line) refl (tokens_stay ts t.line)
+  where
+    by : (b : Bool) → (nat_eq line 0 || nat_eq t.line line) ≡ b → tokens_in (pieces_from ts t.line) ≡ ts → tokens_in (pieces_from (t ∷ ts) line) ≡ t ∷ ts
+    by true e rest = rw e (ap (λ (us : List Tok). t ∷ us) rest)
+    by false e rest = rw e (ap (λ (us : List Tok). t ∷ us) rest)

@@ -8,3 +8,4 @@ pub mod Pieces
 pub mod Faults
 pub mod Places
 pub mod Digits
+pub mod Lexed

@@ -1,5 +1,5 @@
 -- Lines, and places in a text: lines and columns count from 1, and a column counts bytes.
-use Rattle.std.specs.Prelude.{ℕ, zero, suc, ◌+◌, ◌-◌, List, [], ◌∷◌, length, reverse, count_by, if◌then◌else◌, Option, None, Some, slice_get}
+use Rattle.std.specs.Prelude.{◌≡◌, true, ℕ, zero, suc, ◌+◌, ◌-◌, List, [], ◌∷◌, ◌++◌, length, reverse, count_by, if◌then◌else◌, Option, None, Some, slice_get}
 use Rattle.std.specs.List.{prefix_len}
 use Rattle.trop_text.specs.Bytes.{is_line_feed, is_in_line}
 
@@ -29,3 +29,17 @@ past_lines (suc k) (b ∷ bs) = if is_line_feed b then past_lines k bs else past
 -- one more than the number of bytes of that line, its line feed not counted
 abbrev pub line_end : List ℕ → ℕ → ℕ
 line_end bytes line = 1 + prefix_len is_in_line (past_lines (line - 1) bytes)
+
+-- a line feed, or the end
+abbrev pub BeginsWithFeed : List ℕ → Type 0
+BeginsWithFeed [] = Unit {0}
+BeginsWithFeed (b ∷ bs) = is_line_feed b ≡ true
+
+-- at this line and column stands what ends the line: its line feed, or the end of the text
+pub record EndsLine (bytes : List ℕ) (line column : ℕ) : Type 0 where
+  pub before : List ℕ
+  pub rest : List ℕ
+  pub whole : bytes ≡ before ++ rest
+  pub line_is : line ≡ line_of before
+  pub column_is : column ≡ column_of before
+  pub ends : BeginsWithFeed rest

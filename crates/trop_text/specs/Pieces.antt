@@ -25,6 +25,13 @@ pieces_from (t ∷ ts) line =
     if (line == 0) || (t.line == line) then Token t ∷ pieces_from ts t.line
     else LineEnd line ∷ Token t ∷ pieces_from ts t.line
 
+-- the tokens among pieces
+abbrev pub tokens_in : List Piece → List Tok
+tokens_in [] = []
+tokens_in (Token t ∷ ps) = t ∷ tokens_in ps
+tokens_in (LineEnd line ∷ ps) = tokens_in ps
+tokens_in (InputEnd ∷ ps) = tokens_in ps
+
 -- the pieces of a text
 abbrev pub pieces_of : List ℕ → List Piece
 pieces_of bytes = pieces_from (tokens_of bytes) 0

@@ -24,11 +24,13 @@ pub struct Lexer<'a> {
 impl<'a> Lexer<'a> {
     ghost use Rattle.trop_text.specs.Lexer.{left, source, line_at, bytes_left, IsAtToken, GivesNext};
     ghost use Rattle.trop_text.specs.Tokens.{tokens_of};
+    ghost use Rattle.trop_text.specs.Lexed.{AreTokens};
 
     /// A lexer over all tokens of a source.
     pub fn new(bytes: &'a [u8]) -> Lexer<'a>
         requires { length bytes.now ≤ 2 ^ 31 }
         ensures tokens { left result ≡ tokens_of bytes.now }
+        ensures lexed { AreTokens [] bytes.now (left result) }
         ensures source { source result ≡ bytes.now }
     {
         Lexer {
@@ -135,7 +137,8 @@ impl<'a> Lexer<'a> {
     /// One more than the number of bytes of a line of the source, its line feed not counted, so the column behind its
     /// last byte. Lines count from 1.
     pub fn line_end(&self, line: u32) -> u32
-        ensures { result ≡ lines.line_end (source self.now) line }
+        ensures value { result ≡ lines.line_end (source self.now) line }
+        ensures end { 1 ≤ line → line ≤ lines.line_count (source self.now) → lines.EndsLine (source self.now) line result }
     {
         lines::line_end(self.source, line)
     }

@@ -1,0 +1,6 @@
+use Rattle.trop_text.specs.Lexer.{left}
+use Rattle.trop_text.proofs.LineEnds.{tokens_stay}
+use Rattle.trop_text.proofs.pieces.Pieces.new.Goals as goal
+
+pub returns-clause-same : goal.returns-clause-same
+returns-clause-same c = tokens_stay (left c.args.lexer) c.args.line
