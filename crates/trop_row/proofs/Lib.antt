@@ -6,3 +6,4 @@ pub mod Kept
 pub mod NormalSteps
 pub mod Sorted
 pub mod Reduced
+pub mod StepMoves

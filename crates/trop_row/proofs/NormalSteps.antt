@@ -17,7 +17,7 @@ use Rattle.trop_row.proofs.Steps.{rows_size-at}
 
 module _ {V : Type 0} {R : Semiring V} (laws : SemiringLaws R) where
   -- the factor is the inverse of an entry
-  size_normalised : (g h : List V) → Normalises R g h → row_size R h ≤ row_size R g + row_size R g
+  pub size_normalised : (g h : List V) → Normalises R g h → row_size R h ≤ row_size R g + row_size R g
   size_normalised g h m =
       let i = m.normal.first in
       let at : R.times m.factor (entry R g i) ≡ R.one = sym (ap (λ v. entry R v i) m.multiple ∙ entry-scaled laws m.factor g i) ∙ m.normal.is_one in

@@ -6,9 +6,11 @@
 mod entries;
 mod gens;
 mod inequality;
+pub mod laws;
 mod membership;
 mod reduction;
 mod row;
+mod step;
 mod system;
 
 pub use gens::Gens;
@@ -16,4 +18,5 @@ pub use inequality::Ineq;
 pub use membership::member;
 pub use reduction::reduce;
 pub use row::Row;
+pub use step::step_all;
 pub use system::System;

@@ -17,3 +17,4 @@ pub mod Distinct
 pub mod Units
 pub mod StepLists
 pub mod Unique
+pub mod Mixed
