@@ -1,2 +1,3 @@
 pub mod Spelling
 pub mod SpellingLaws
+pub mod Printed

@@ -1,0 +1,90 @@
+ghost use Rattle.std.specs.Prelude.{◌≡◌, ◌+◌, ◌++◌, length, OnOk, IfOk, All};
+ghost use Rattle.trop_theory.specs.Normal.{IsNormal};
+ghost use Rattle.trop_files.specs.Printed.{numbers, after_spaces, printed_header, generator_line, printed_gens, printed_ineqs};
+
+use crate::print_row::push_row;
+use crate::print_side::push_inequality;
+use crate::{NoMemory, Spelling};
+use std::alloc::Global;
+use trop_row::{Gens, System};
+use trop_text::Names;
+
+/// The file of generators with these rows, which are in normal form, in the variables with these names.
+pub fn print_gens<S: Spelling>(
+    alloc: Global,
+    names: &Names,
+    gens: &Gens<S>,
+) -> Result<Vec<u8>, NoMemory>
+    requires names { gens.now.n ≡ length names.now + 1 }
+    requires normal { All (IsNormal S.ring) gens.now.rows }
+    ensures { IfOk result (λ text. text.items ≡ printed_gens S.kind S.numbering names.now gens.now.rows) }
+{
+    let mut text = Vec::new(alloc);
+    push_header::<S>(&mut text, b"gens", names)?;
+    for k in 0..gens.len() {
+        push_generator(&mut text, gens.get(k).as_slice())?;
+        text.push(b'\n')?;
+    }
+    Ok(text)
+}
+
+/// The file of these inequalities, in the variables with these names.
+pub fn print_ineqs<S: Spelling>(
+    alloc: Global,
+    names: &Names,
+    system: &System<S>,
+) -> Result<Vec<u8>, NoMemory>
+    requires { system.now.n ≡ length names.now + 1 }
+    ensures { IfOk result (λ text. text.items ≡ printed_ineqs S.kind S.numbering names.now system.now.inequalities) }
+{
+    let mut text = Vec::new(alloc);
+    push_header::<S>(&mut text, b"ineqs", names)?;
+    for k in 0..system.len() {
+        push_inequality(&mut text, names, system.get(k))?;
+        text.push(b'\n')?;
+    }
+    Ok(text)
+}
+
+fn push_header<S: Spelling>(
+    text: &mut Vec<u8>,
+    file_kind: &[u8],
+    names: &Names,
+) -> Result<(), NoMemory>
+    ensures { OnOk result (text.new.items ≡ text.old.items ++ printed_header file_kind.now S.kind names.now) }
+{
+    text.extend_from_slice(b"kind ")?;
+    text.extend_from_slice(file_kind)?;
+    text.extend_from_slice(b"\nsemiring ")?;
+    text.extend_from_slice(S::ring_word())?;
+    text.extend_from_slice(b"\nvars")?;
+    push_names(text, names)?;
+    text.push(b'\n')?;
+    Ok(())
+}
+
+// Each name behind a space.
+fn push_names(text: &mut Vec<u8>, names: &Names) -> Result<(), NoMemory>
+    ensures { OnOk result (text.new.items ≡ text.old.items ++ after_spaces names.now) }
+{
+    for place in 0..names.len() {
+        text.push(b' ')?;
+        text.extend_from_slice(names.name(place).as_bytes())?;
+    }
+    Ok(())
+}
+
+fn push_generator<S: Spelling>(text: &mut Vec<u8>, row: &[S]) -> Result<(), NoMemory>
+    ensures { OnOk result (text.new.items ≡ text.old.items ++ generator_line S.kind (numbers S.numbering row.now)) }
+{
+    let [first, rest @ ..] = row else {
+        return Ok(());
+    };
+    let word: &[u8] = if first.number().is_some() {
+        b"point "
+    } else {
+        b"ray "
+    };
+    text.extend_from_slice(word)?;
+    push_row(text, rest)
+}

@@ -1,0 +1,39 @@
+ghost use Rattle.std.specs.Prelude.{◌≡◌, ◌++◌, map, OnOk, IfOk};
+ghost use Rattle.trop_files.specs.Spelling.{element_text};
+ghost use Rattle.trop_files.specs.Printed.{after_commas, numbers, printed_row};
+
+use crate::{NoMemory, Spelling};
+use std::alloc::Global;
+use trop_row::Row;
+
+/// The row as it is printed, `[a, b]`.
+pub fn row_text<S: Spelling>(alloc: Global, row: &Row<S>) -> Result<Vec<u8>, NoMemory>
+    ensures { IfOk result (λ text. text.items ≡ printed_row S.kind (numbers S.numbering row.now)) }
+{
+    let mut text = Vec::new(alloc);
+    push_row(&mut text, row.as_slice())?;
+    Ok(text)
+}
+
+pub(crate) fn push_row<S: Spelling>(text: &mut Vec<u8>, entries: &[S]) -> Result<(), NoMemory>
+    ensures { OnOk result (text.new.items ≡ text.old.items ++ printed_row S.kind (numbers S.numbering entries.now)) }
+{
+    text.push(b'[')?;
+    if let [first, rest @ ..] = entries {
+        first.push_element(text)?;
+        push_rest(text, rest)?;
+    }
+    text.push(b']')?;
+    Ok(())
+}
+
+// Each entry behind a comma and a space.
+fn push_rest<S: Spelling>(text: &mut Vec<u8>, entries: &[S]) -> Result<(), NoMemory>
+    ensures { OnOk result (text.new.items ≡ text.old.items ++ after_commas (map (element_text S.kind) (numbers S.numbering entries.now))) }
+{
+    for x in entries {
+        text.extend_from_slice(b", ")?;
+        x.push_element(text)?;
+    }
+    Ok(())
+}
