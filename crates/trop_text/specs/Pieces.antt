@@ -1,5 +1,5 @@
 -- The pieces of which the grammars speak: tokens, and the ends of the lines that have tokens and of the input.
-use Rattle.std.specs.Prelude.{◌≡◌, ℕ, zero, suc, List, [], ◌∷◌, Option, MatchOption, ◌==◌, ◌||◌, if◌then◌else◌}
+use Rattle.std.specs.Prelude.{◌≡◌, ◌≢◌, ◌⊎◌, ℕ, zero, suc, List, [], ◌∷◌, Option, MatchOption, ◌==◌, ◌||◌, if◌then◌else◌}
 use Rattle.trop_text.specs.Tokens.{Tok, tokens_of}
 use Rattle.trop_text.specs.Lexer.{left, source, tok_of}
 use Rattle.trop_text.specs.declared.pieces.Pieces.{Pieces}
@@ -31,6 +31,19 @@ tokens_in [] = []
 tokens_in (Token t ∷ ps) = t ∷ tokens_in ps
 tokens_in (LineEnd line ∷ ps) = tokens_in ps
 tokens_in (InputEnd ∷ ps) = tokens_in ps
+
+-- a line ends before a token of another line, and before the end of the input
+abbrev pub Turns : ℕ → List Piece → Type 0
+Turns line (Token t ∷ ps) = t.line ≢ line
+Turns line (InputEnd ∷ ps) = Unit {0}
+Turns line _ = ⊥
+
+-- Behind tokens of a line (0: behind none), each line that has tokens ends once, behind them; the input ends last.
+abbrev pub AreByLine : ℕ → List Piece → Type 0
+AreByLine line [] = ⊥
+AreByLine line (Token t ∷ ps) = ((line ≡ 0) ⊎ (t.line ≡ line)) × AreByLine t.line ps
+AreByLine line (LineEnd l ∷ ps) = (l ≡ line) × (line ≢ 0) × Turns line ps × AreByLine 0 ps
+AreByLine line (InputEnd ∷ ps) = (line ≡ 0) × (ps ≡ [])
 
 -- the pieces of a text
 abbrev pub pieces_of : List ℕ → List Piece

@@ -58,7 +58,8 @@ impl FaultKind {
     }
 }
 
-/// The first fault of a text. Lines and columns count from 1, columns in bytes.
+/// The first fault of a text, with its place; [`FaultKind`] says what each kind means. Lines and columns count from 1,
+/// columns in bytes.
 #[derive(Clone, Copy, Debug, PartialEq, Eq, Error)]
 pub enum Fault {
     #[error("line {line}, column {column}: syntax")]

@@ -1,5 +1,13 @@
-//! The lowest layer of the text formats: the places and kinds of faults, the names of variables, and the tokens of a
-//! source with their lines and columns.
+//! The lowest layer of the text formats.
+//!
+//! - [`Lexer`] cuts a source into tokens, each with its line and column. Its contract says what the tokens of a text
+//!   are with no order of work: the longest words, digits and signs outside of comments.
+//! - [`Pieces`] are these tokens with the ends of lines and of the input, which the grammars of files speak of.
+//! - [`Fault`] is what may be wrong with a text, and where; [`Pieces::fault`] places it.
+//! - [`Names`] are the names of variables in the order in which they were first seen.
+//!
+//! Going over a source takes time that grows with its length: no step goes over bytes again, but for the length of
+//! one line, or the number of lines, where a fault is placed.
 #![tactic(auto)]
 
 mod bytes;

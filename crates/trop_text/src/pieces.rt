@@ -24,7 +24,7 @@ pub struct Pieces<'a> {
 
 impl<'a> Pieces<'a> {
     ghost use Rattle.trop_text.specs.Lexer.{left, source};
-    ghost use Rattle.trop_text.specs.Pieces.{pieces_from, pieces_left, tokens_in, tokens_left, pieces_source, GivesPiece, KeepsSource, Resumes};
+    ghost use Rattle.trop_text.specs.Pieces.{pieces_from, pieces_left, tokens_in, AreByLine, tokens_left, pieces_source, GivesPiece, KeepsSource, Resumes};
     ghost use Rattle.trop_text.specs.Places.{fault_before};
 
     /// The pieces of the tokens that a lexer has left, of which the first ones may belong to a line that was begun
@@ -32,6 +32,7 @@ impl<'a> Pieces<'a> {
     pub fn new(lexer: Lexer<'a>, line: u32) -> Pieces<'a>
         ensures pieces { pieces_left result ≡ pieces_from (left lexer.entry) line }
         ensures same { tokens_in (pieces_left result) ≡ left lexer.entry }
+        ensures by_line { AreByLine line (pieces_left result) }
         ensures tokens { tokens_left result ≡ left lexer.entry }
         ensures source { pieces_source result ≡ source lexer.entry }
     {
