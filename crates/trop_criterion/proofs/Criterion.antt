@@ -9,15 +9,10 @@ use Rattle.trop_theory.specs.Semiring.{Semiring, SemiringLaws}
 use Rattle.trop_theory.specs.Vectors.{entry}
 use Rattle.trop_theory.specs.Inequalities.{Inequality, IsIn, Solves, inequality_size, system_size}
 use Rattle.trop_theory.specs.Extreme.{IsExtreme, IsType}
-use Rattle.trop_criterion.specs.Tangents.{TangentReaches}
+use Rattle.trop_criterion.specs.Tangents.{IsReachedFromAll}
 use Rattle.trop_criterion.proofs.Types.{IsType-reached, reached_from_IsType, IsExtreme-from_type}
 use Rattle.trop_criterion.proofs.Closures.{Closure, closure_of}
 use Rattle.trop_criterion.proofs.Extremes.{some_reached}
-
--- t is a node that is reached from every node
-pub record IsReachedFromAll {V : Type 0} (R : Semiring V) (system : List (Inequality V)) (x : List V) (t : ℕ) : Type 0 where
-  pub finite : entry R x t ≢ R.zero
-  pub reached : (u : ℕ) → entry R x u ≢ R.zero → TangentReaches R system x u t
 
 module _ {V : Type 0} (R : Semiring V) where
   pub All-system_size : (system : List (Inequality V)) (m : ℕ) → system_size R system ≤ m → All (λ p. inequality_size R p ≤ m) system

@@ -1,8 +1,8 @@
 -- Reaching by the listed hyperedges of a system is reaching by its inequalities.
-use Rattle.std.proofs.Common.{ℕ, Bool, List, [], ◌∷◌, sym, subst}
+use Rattle.std.proofs.Common.{ℕ, Bool, List, [], ◌∷◌, sym, subst, ◌++◌, refl, ◌≡◌, ap, ◌∙◌}
 use Rattle.std.specs.Prelude.{◌↔◌, All, Option, Some, None, filter_map}
 use Rattle.std.specs.List.{AllZip}
-use Rattle.std.proofs.lemmas.List.Elements.{All-nil, All-cons, All-head, All-tail}
+use Rattle.std.proofs.lemmas.List.Elements.{filter_map-append, All-nil, All-cons, All-head, All-tail}
 use Rattle.trop_theory.specs.Semiring.{Semiring}
 use Rattle.trop_theory.specs.Inequalities.{Inequality}
 use Rattle.trop_criterion.specs.Hypergraphs.{Hyperedge, Keeps, Reaches}
@@ -45,3 +45,21 @@ module _ {V : Type 0} (R : Semiring V) (x : List V) where
     λ reaches set here keeps. reaches set here (subst (All (Keeps set)) (sym h.listed) (back set system h.each h.given keeps)),
     λ reaches set here keeps. reaches set here (there set system h.each h.given (subst (All (Keeps set)) h.listed keeps)),
   )
+
+AllZip-last : {A B : Type 0} (P : A → B → Type 0) (xs : List A) (ys : List B) (x : A) (y : B) → AllZip P xs ys → P x y → AllZip P (xs ++ x ∷ []) (ys ++ y ∷ [])
+AllZip-last P [] [] x y h p = (p, tt)
+AllZip-last P [] (b ∷ ys) x y h p = absurd h
+AllZip-last P (a ∷ xs) [] x y h p = absurd h
+AllZip-last P (a ∷ xs) (b ∷ ys) x y h p = (h.0, AllZip-last P xs ys x y h.1 p)
+
+module _ {V : Type 0} (R : Semiring V) (x : List V) where
+  -- the hyperedges of more inequalities, one after another
+  pub AreTangents-nil : AreTangents R [] x []
+  AreTangents-nil = record { each = []; given = tt; listed = refl }
+
+  pub AreTangents-more : (system : List (Inequality V)) (edges : List Hyperedge) (p : Inequality V) (e : Option Hyperedge) → AreTangents R system x edges → IsTangentOf R x p e → AreTangents R (system ++ p ∷ []) x (edges ++ filter_map (λ edge. edge) (e ∷ []))
+  AreTangents-more system edges p e h given = record {
+    each = h.each ++ e ∷ [];
+    given = AllZip-last (IsTangentOf R x) system h.each p e h.given given;
+    listed = ap (λ es. es ++ filter_map (λ edge. edge) (e ∷ [])) h.listed ∙ sym (filter_map-append (λ edge. edge) h.each (e ∷ []));
+  }

@@ -4,7 +4,7 @@ use Rattle.std.proofs.Common.{◌≡◌, ◌⊎◌, ◌<◌, ◌≤◌, ◌+◌,
 use Rattle.std.specs.Prelude.{◌↔◌, count_ones}
 use Rattle.std.proofs.lemmas.Bool.{cases_lt}
 use Rattle.trop_criterion.specs.Hypergraphs.{Has, IsSubset}
-use Rattle.trop_criterion.proofs.Words.{ones_some, ones-grow, ones-below}
+use Rattle.trop_criterion.proofs.Words.{ones_some, ones-grow, ones-below, ones-within}
 
 -- A round after the first k hyperedges. `kept j` says that the set from which it began has the head of hyperedge j
 -- where it has its tail.
@@ -83,6 +83,10 @@ module _ (reaches : ℕ → ℕ → Type 0) (nodes from : ℕ) where
   -- there are fewer rounds than nodes
   pub IsRound-early : (round now : ℕ) → IsRound reaches nodes from round now → nodes < 2 ^ 64 → round + 1 ≤ count_ones nodes
   IsRound-early round now h fits = omega (arith, h.many, ones-below 64 now nodes h.fits fits h.within)
+
+  -- or than numbers below a bound on the nodes
+  pub IsRound-within : (n round now : ℕ) → IsRound reaches nodes from round now → ((i : ℕ) → Has nodes i → i < n) → round + 1 ≤ n
+  IsRound-within n round now h within = omega (arith, h.many, ones-within 64 now n h.fits (λ i here. within i (h.within i here)))
 
 -- the nodes that are reached from each of the first k nodes
 pub record IsCommon (reaches : ℕ → ℕ → Type 0) (nodes k now : ℕ) : Type 0 where

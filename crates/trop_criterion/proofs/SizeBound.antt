@@ -11,8 +11,9 @@ use Rattle.trop_theory.specs.Normal.{IsNormal}
 use Rattle.trop_theory.specs.Inequalities.{Inequality, IsIn, Solves, system_size}
 use Rattle.trop_theory.specs.Extreme.{IsExtreme}
 use Rattle.trop_theory.proofs.Order.{undo_times, redo_times, times_one}
+use Rattle.trop_criterion.specs.Tangents.{IsReachedFromAll}
 use Rattle.trop_criterion.proofs.Closures.{distance, distance_over, quotient_over}
-use Rattle.trop_criterion.proofs.Criterion.{All-system_size, IsReachedFromAll, closure_at, reached_from_extreme}
+use Rattle.trop_criterion.proofs.Criterion.{All-system_size, closure_at, reached_from_extreme}
 
 -- two stretches of m for each of n - 1 steps
 two_ways : (d e m n : ℕ) → 1 ≤ n → d + 2 * m ≤ 2 * m * n → e + 2 * m ≤ 2 * m * n → d + e ≤ 4 * m * (n - 1)

@@ -28,6 +28,15 @@ pub tally_zero : (n : ℕ) → tally (λ i. 0) n ≡ 0
 tally_zero zero = refl
 tally_zero (suc n) = omega (arith, tally_zero n)
 
+-- no more than n where nothing is counted from n on
+pub tally_within : (f : ℕ → ℕ) (k n : ℕ) → ((i : ℕ) → f i ≤ 1) → ((i : ℕ) → n ≤ i → f i ≡ 0) → tally f k ≤ n
+tally_within f zero n h none = omega arith
+tally_within f (suc k) n h none =
+    ⊎_elim
+    (λ l. omega (arith, tally_below f (λ i. 1) (suc k) (λ i m. h i), tally_one (suc k)))
+    (λ l. omega (arith, none k l, tally_within f k n h none))
+    (cases_lt k n)
+
 -- the first place apart from the others
 pub tally_first : (f : ℕ → ℕ) (n : ℕ) → tally f (suc n) ≡ f 0 + tally (λ i. f (suc i)) n
 tally_first f zero = omega arith

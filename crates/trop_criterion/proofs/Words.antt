@@ -10,7 +10,7 @@ use Rattle.std.proofs.lemmas.Nat.Bits.{bit_at-lt, bit_at-suc, bit_at_lowest, bit
 use Rattle.trop_criterion.specs.Hypergraphs.{Has, IsSubset, Hyperedge, Keeps, Reaches, IsClosed}
 use Rattle.std.proofs.lemmas.List.Elements.{All-contains}
 use Rattle.trop_criterion.proofs.Tests.{test, test_true, true_test, decide_not, decide_both, stable, some_below}
-use Rattle.trop_criterion.proofs.Tallies.{tally, tally_below, tally_less, tally_first, tally_one, tally_zero}
+use Rattle.trop_criterion.proofs.Tallies.{tally, tally_below, tally_less, tally_first, tally_one, tally_zero, tally_within}
 
 same_tally : (f g : ℕ → ℕ) (n : ℕ) → ((i : ℕ) → f i ≡ g i) → tally f n ≡ tally g n
 same_tally f g zero h = refl
@@ -44,6 +44,10 @@ ones-less k a b i p q h here out =
 -- as many as there are numbers at most
 pub ones-le : (k a : ℕ) → a < 2 ^ k → count_ones a ≤ k
 ones-le k a p = omega (arith, ones_tally k a p, tally_below (bit_at a) (λ i. 1) k (λ i l. omega (arith, bit_at-lt a i)), tally_one k)
+
+-- at most n where each is below n
+pub ones-within : (k a n : ℕ) → a < 2 ^ k → ((i : ℕ) → Has a i → i < n) → count_ones a ≤ n
+ones-within k a n p h = omega (arith, ones_tally k a p, tally_within (bit_at a) k n (λ i. omega (arith, bit_at-lt a i)) (λ i l. ⊎_elim (λ z. omega arith) (λ o. absurd (omega (arith, h i (omega (arith, bit_at-lt a i))))) (cases_lt (bit_at a i) 1)))
 
 -- at least one where there is one
 pub ones_some : (k a i : ℕ) → a < 2 ^ k → Has a i → 1 ≤ count_ones a

@@ -1,0 +1,4 @@
+pub mod Collected
+pub mod Attaining
+pub mod Filled
+pub mod Reaching
