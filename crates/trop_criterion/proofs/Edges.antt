@@ -1,5 +1,5 @@
 -- Reaching by the listed hyperedges of a system is reaching by its inequalities.
-use Rattle.std.proofs.Common.{ℕ, Bool, List, [], ◌∷◌, sym, subst, ◌++◌, refl, ◌≡◌, ap, ◌∙◌}
+use Rattle.std.proofs.Common.{ℕ, Bool, List, [], ◌∷◌, sym, subst, ◌++◌, refl, ap, ◌∙◌}
 use Rattle.std.specs.Prelude.{◌↔◌, All, Option, Some, None, filter_map}
 use Rattle.std.specs.List.{AllZip}
 use Rattle.std.proofs.lemmas.List.Elements.{filter_map-append, All-nil, All-cons, All-head, All-tail}

@@ -1,2 +1,3 @@
 pub mod Hypergraphs
 pub mod Tangents
+pub mod SizeBound

@@ -1,7 +1,7 @@
 -- The tangent hypergraph, one inequality after another.
-use Rattle.std.proofs.Common.{◌≡◌, ◌≢◌, ◌<◌, ◌≤◌, ◌+◌, ◌++◌, [], ◌∷◌, ℕ, List, length, sym, ap, ◌∙◌, subst, take, get_or, append-nil, arith}
-use Rattle.std.specs.Prelude.{◌↔◌, Option, Some, None}
-use Rattle.std.proofs.lemmas.List.{take_more, get_or_default, take_all}
+use Rattle.std.proofs.Common.{◌≡◌, ◌<◌, ◌≤◌, ◌+◌, ◌++◌, [], ◌∷◌, ℕ, List, length, sym, ap, ◌∙◌, subst, take, get_or, append-nil}
+use Rattle.std.specs.Prelude.{◌↔◌, Some, None}
+use Rattle.std.proofs.lemmas.List.{take_more, take_all}
 use Rattle.trop_theory.specs.Semiring.{Semiring, SemiringLaws}
 use Rattle.trop_theory.specs.Inequalities.{Inequality, inequality_size, system_size}
 use Rattle.trop_theory.proofs.Order.{factor_finite}

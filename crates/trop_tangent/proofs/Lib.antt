@@ -2,3 +2,4 @@ pub mod Collected
 pub mod Attaining
 pub mod Filled
 pub mod Reaching
+pub mod Judging

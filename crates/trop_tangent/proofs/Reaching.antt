@@ -1,12 +1,11 @@
 -- A round over the inequalities of a system, which finds the tangent hyperedges at x again.
-use Rattle.std.proofs.Common.{◌≡◌, ◌≢◌, ◌⊎◌, ◌<◌, ◌≤◌, ◌+◌, ◌^◌, ◌*◌, ◌∙◌, ℕ, Bool, List, length, sym, subst, get_or, arith, ⊎_elim, min, add-mul}
+use Rattle.std.proofs.Common.{◌≡◌, ◌⊎◌, ◌<◌, ◌≤◌, ◌+◌, ◌^◌, ◌*◌, ◌∙◌, ℕ, List, length, sym, subst, get_or, arith, ⊎_elim, min, add-mul}
 use Rattle.std.proofs.Math.Nat.{mul-le-mul_right}
-use Rattle.std.specs.Prelude.{◌↔◌, All, Contains, Some, None, IsTrue, count_ones}
+use Rattle.std.specs.Prelude.{◌↔◌, All, Contains, None}
 use Rattle.std.proofs.lemmas.List.{get_or_default, get_or_past}
 use Rattle.std.proofs.lemmas.List.Elements.{All-contains}
 use Rattle.std.proofs.lemmas.Bool.{cases_lt}
 use Rattle.trop_theory.specs.Semiring.{Semiring}
-use Rattle.trop_theory.specs.Vectors.{entry}
 use Rattle.trop_theory.specs.Inequalities.{Inequality}
 use Rattle.trop_criterion.specs.Hypergraphs.{Has, IsSubset, Hyperedge}
 use Rattle.trop_criterion.specs.Tangents.{Attains, IsTight, TangentEdge, IsTangentOf, KeepsTangent, TangentReaches, IsClosedAt, IsReachedFromAll}

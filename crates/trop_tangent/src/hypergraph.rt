@@ -1,6 +1,6 @@
-ghost use Rattle.std.specs.Prelude.{◌≡◌, ◌≢◌, ◌+◌, ◌^◌, ◌<◌, ◌≤◌, ◌↔◌, ℕ, min, length, IfOk, OnOk};
+ghost use Rattle.std.specs.Prelude.{◌≡◌, ◌≢◌, ◌+◌, ◌^◌, ◌<◌, ◌≤◌, ◌↔◌, ℕ, min, length, All, IfOk, OnOk};
 ghost use Rattle.trop_theory.specs.Vectors.{entry, row_size};
-ghost use Rattle.trop_theory.specs.Inequalities.{system_size};
+ghost use Rattle.trop_theory.specs.Inequalities.{IsIn, system_size};
 ghost use Rattle.trop_criterion.specs.Hypergraphs.{Has};
 ghost use Rattle.trop_criterion.specs.Tangents.{AreTangents};
 
@@ -27,12 +27,18 @@ pub fn finite_entries<S: Scalar>(entries: &[S]) -> Mask
 }
 
 // Makes the hypergraph the tangent one of the system at the row, in the room that it has. It looks once at each inequality.
-pub fn fill<S: Scalar>(hyper: &mut Hyper, system: &System<S>, row: &Row<S>, looks: &mut Looks) -> Result<(), NoMemory>
+pub fn fill<S: Scalar>(
+    hyper: &mut Hyper,
+    system: &System<S>,
+    row: &Row<S>,
+    looks: &mut Looks,
+) -> Result<(), NoMemory>
     requires wide { length row.now ≡ system.now.n }
     requires row_size { row_size S.ring row.now ≤ 2 ^ 60 }
     requires size { system_size S.ring system.now.inequalities ≤ 2 ^ 49 }
     ensures nodes { OnOk result ((i : ℕ) → Has hyper.new.nodes i ↔ (entry S.ring row.now i ≢ S.ring.zero)) }
     ensures edges { OnOk result (AreTangents S.ring system.now.inequalities row.now hyper.new.edges) }
+    ensures wide { All (IsIn system.now.n) system.now.inequalities }
     ensures at_least { OnOk result (min (looks.old + length system.now.inequalities) (2 ^ 62) ≤ looks.new) }
     ensures kept { looks.old ≤ looks.new }
 {
@@ -48,7 +54,11 @@ pub fn fill<S: Scalar>(hyper: &mut Hyper, system: &System<S>, row: &Row<S>, look
 
 /// The tangent directed hypergraph of the system at the row: its nodes are the coordinates where the row is finite, and its
 /// hyperedges those of the inequalities that give one, in their order.
-pub fn tangent<S: Scalar>(alloc: Global, system: &System<S>, row: &Row<S>) -> Result<Hyper, NoMemory>
+pub fn tangent<S: Scalar>(
+    alloc: Global,
+    system: &System<S>,
+    row: &Row<S>,
+) -> Result<Hyper, NoMemory>
     requires wide { length row.now ≡ system.now.n }
     requires row_size { row_size S.ring row.now ≤ 2 ^ 60 }
     requires size { system_size S.ring system.now.inequalities ≤ 2 ^ 49 }

@@ -3,10 +3,14 @@
 //! hypergraph is reached from every node, and these nodes are its types.
 #![tactic(auto)]
 
+mod criterion;
 mod hyperedge;
 mod hypergraph;
 mod rounds;
+mod size_bound;
 
+pub use criterion::{is_extreme, is_extreme_in, types};
 pub use hyperedge::tight;
 pub use hypergraph::tangent;
+pub use size_bound::{extreme_entries_are_near, extreme_rows_are_small};
 pub use trop_hyper::Edge;

@@ -16,7 +16,7 @@ pub loop-i-preserved : goal.loop-i-preserved
 loop-i-preserved g c =
     let product : g.S.Scalar.ring.times (entry g.S.Scalar.ring c.args.side.now c.loop-i.i) (entry g.S.Scalar.ring c.args.entries.now c.loop-i.i) ≡ c.times.result = product_read g.S.Scalar.ring c.args.side.now c.args.entries.now _ _ _ c.index-side-i.is c.index-entries-i.is (omega arith) (omega (arith, c.requires.lengths)) ∙ sym c.times.ensures in
     elim c.if-eq.branch [
-      then-eq w ↦ subst (IsCollected _ _) (sym w.mask-is) (collected-take (IsSum g.S.Scalar.ring c.args.side.now c.args.entries.now c.args.sum) _ _ _ c.loop-i.invariant w.with-mask.ensures.members (product ∙ (g.met.S.Scalar.decides _ _).0 (sym c.eq.ensures ∙ w.if-eq.true)))
+      | then-eq w ↦ subst (IsCollected _ _) (sym w.mask-is) (collected-take (IsSum g.S.Scalar.ring c.args.side.now c.args.entries.now c.args.sum) _ _ _ c.loop-i.invariant w.with-mask.ensures.members (product ∙ (g.met.S.Scalar.decides _ _).0 (sym c.eq.ensures ∙ w.if-eq.true)))
       | else-eq w ↦ subst (IsCollected _ _) (sym w.mask-is) (collected-skip (IsSum g.S.Scalar.ring c.args.side.now c.args.entries.now c.args.sum) _ _ c.loop-i.invariant (λ e. true≢false (sym ((g.met.S.Scalar.decides _ _).1 (sym product ∙ e)) ∙ sym c.eq.ensures ∙ w.if-eq.false)))
     ]
 

@@ -1,6 +1,5 @@
-use Rattle.std.proofs.Common.{◌≡◌, ◌≤◌, ◌^◌, arith, sym, subst, ◌∙◌}
+use Rattle.std.proofs.Common.{◌≤◌, ◌^◌, sym, subst}
 use Rattle.trop_theory.specs.Inequalities.{system_size}
-use Rattle.trop_criterion.specs.Hypergraphs.{Hyperedge}
 use Rattle.trop_criterion.specs.Tangents.{TangentEdge}
 use Rattle.trop_criterion.proofs.Counts.{IsCounted-more}
 use Rattle.trop_tangent.proofs.Filled.{IsFilled, inequality_read, filled-none, filled-some, tail_finite, head_finite}
@@ -22,7 +21,7 @@ add_edge-requires-clause-head g c =
 pub loop-ineq-preserved : goal.loop-ineq-preserved
 loop-ineq-preserved g c = (
   elim c.match-tight.branch [
-    in-Some+in_ok-add_edge w ↦ subst (IsFilled _ _ _ _) (sym w.hyper-is) (filled-some g.S.Scalar.ring _ _ _ c.ineq-item.result _ _ _ c.loop-ineq-test.true c.ineq-item.is (subst (TangentEdge g.S.Scalar.ring c.ineq-item.result c.args.row.now) (sym w.edge.view_is) w.in-Some.ensures.edge) w.add_edge.ensures.nodes w.in_ok-add_edge.ensures.ok c.loop-ineq.invariant.0)
+    | in-Some+in_ok-add_edge w ↦ subst (IsFilled _ _ _ _) (sym w.hyper-is) (filled-some g.S.Scalar.ring _ _ _ c.ineq-item.result _ _ _ c.loop-ineq-test.true c.ineq-item.is (subst (TangentEdge g.S.Scalar.ring c.ineq-item.result c.args.row.now) (sym w.edge.view_is) w.in-Some.ensures.edge) w.add_edge.ensures.nodes w.in_ok-add_edge.ensures.ok c.loop-ineq.invariant.0)
     | in_default w ↦ subst (IsFilled _ _ _ _) (sym w.hyper-is) (filled-none g.S.Scalar.ring _ _ _ c.ineq-item.result _ c.loop-ineq-test.true c.ineq-item.is w.in_default.ensures.edge c.loop-ineq.invariant.0)
   ],
   IsCounted-more _ _ _ _ c.loop-ineq.invariant.1 c.tight.ensures.looks c.tight.ensures.kept,
