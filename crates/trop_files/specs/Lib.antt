@@ -1,3 +1,14 @@
 pub mod Spelling
 pub mod SpellingLaws
 pub mod Printed
+pub mod Words
+pub mod Elements
+pub mod Header
+pub mod Generators
+pub mod Gives
+pub mod RingNames
+pub mod FileKinds
+pub mod Headers
+pub mod Outcome
+pub mod ListEnds
+pub mod GeneratorFiles

@@ -1,13 +1,24 @@
-//! Texts of rows, inequalities and files: how each is printed.
+//! The files that the commands read and print: lists of inequalities, generators, pairs of those, and a vector with
+//! inequalities around it.
 //!
 //! Elements are spelled by [`Spelling`], which the three semirings have: `max` and `min` over whole numbers, and `bool`.
 #![tactic(auto)]
 
+mod elements;
+mod file_kind;
+mod generators;
+mod header;
+mod list_end;
 mod print_file;
 mod print_row;
 mod print_side;
+mod read_err;
+mod ring_name;
 mod spelling;
+mod told;
+mod words;
 
+pub use generators::{AnyGens, GenFile, read_gens};
 pub use print_file::{print_gens, print_ineqs};
 pub use print_row::row_text;
 pub use print_side::ineq_text;

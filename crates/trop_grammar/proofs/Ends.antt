@@ -2,6 +2,7 @@
 use Rattle.std.proofs.Common.{◌≡◌, ℕ, zero, suc, List, [], ◌∷◌, ◌++◌, sym, ap, ◌∙◌, append_assoc}
 use Rattle.std.proofs.lemmas.List.{append-nil}
 use Rattle.trop_grammar.specs.Reading.{Next, More, Done}
+use Rattle.trop_grammar.specs.Lists.{Listed}
 use Rattle.trop_grammar.specs.Grammar.{One, Empty, Then, Until, Further}
 
 -- the last token is one of P
@@ -42,3 +43,6 @@ module _ {T : Type 0} {P : T → Type 0} where
 
   pub EndsWith-until : {A B : Type 0} (Step : A → List T → Next A B → Type 0) {Last : A → List T → B → Type 0} → ((x : A) (us : List T) (y : B) → Step x us (Done y) → LastIs P us) → ((x : A) → EndsWith P (Last x)) → (n : ℕ) (x : A) → EndsWith P (Until Step Last n x)
   EndsWith-until Step {Last} s l n x = record { at = until_ends Step Last s l n x }
+
+  pub EndsWith-listed : {A : Type 0} {Line : List A → List T → A → Type 0} {End : List A → T → Type 0} {n : ℕ} → ((xs : List A) (t : T) → End xs t → P t) → EndsWith P (Listed Line End n)
+  EndsWith-listed q = record { at = λ us xs h. record { front = h.items; token = h.end; whole = h.whole; is = q xs h.end h.ends } }

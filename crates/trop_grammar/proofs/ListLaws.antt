@@ -1,10 +1,10 @@
 -- Lists are read right.
-use Rattle.std.proofs.Common.{◌≡◌, ◌≤◌, ℕ, zero, suc, List, [], ◌∷◌, ◌++◌, length, Option, Some, None, Result, Ok, refl, sym, ap, subst, ◌∙◌, append_assoc, arith}
+use Rattle.std.proofs.Common.{◌≡◌, ◌≤◌, ℕ, zero, suc, Bool, true, false, List, [], ◌∷◌, ◌++◌, length, Option, Some, None, Result, Ok, Err, refl, sym, ap, subst, ◌∙◌, append_assoc, arith}
 use Rattle.std.proofs.lemmas.List.{append-nil}
 use Rattle.trop_grammar.specs.Reading.{Reading, token_at, Next, More, Done}
 use Rattle.trop_grammar.specs.Grammar.{One, Empty, Then, Until, Further}
 use Rattle.trop_grammar.specs.Reads.{Reads, Anything, Judges}
-use Rattle.trop_grammar.specs.Lists.{Passes, item_or_end, list_step, list_last, list_at, Item, EndsList, AreItems, Listed}
+use Rattle.trop_grammar.specs.Lists.{Passes, next_or_end, only_end, item_or_end, list_step, list_last, list_at, Item, EndsList, AreItems, Listed}
 use Rattle.trop_grammar.proofs.Laws.{Reads-then, Reads-same, Reads-gives, Reads-token, Reads-until}
 
 module _ {T W : Type 0} where
@@ -22,6 +22,28 @@ module _ {T W : Type 0} where
     pub reads : (xs : List A) (c : C) → Reads Anything (item xs c) (Rest xs c)
     pub last_to : (xs : List A) (t : T) (u : Unit {0}) → last xs t ≡ Ok u → start xs t ≡ Ok None
     pub last_from : (xs : List A) (t : T) → start xs t ≡ Ok None → last xs t ≡ Ok tt
+
+end_only : {W C : Type 0} (e : Bool) (word : Result C W) (what : W) (u : Unit {0}) → only_end e what ≡ Ok u → next_or_end e word ≡ Ok None
+end_only true word what u h = refl
+end_only false word what u h = absurd cc
+
+only_end_again : {W C : Type 0} (e : Bool) (word : Result C W) (what : W) → next_or_end e word ≡ Ok None → only_end e what ≡ Ok tt
+only_end_again true word what h = refl
+only_end_again false (Ok c) what h = absurd cc
+only_end_again false (Err w) what h = absurd cc
+
+module _ {T W A C : Type 0} where
+
+  -- lists whose end is told by the token alone
+  pub parts_of : (ends : T → Bool) (judge : List A → T → Result C W) (past : T → W) (item : List A → C → List T → Reading T W A) (Rest : List A → C → List T → A → Type 0) (end : T) → ends end ≡ true
+      → ((xs : List A) (c : C) → Reads Anything (item xs c) (Rest xs c)) → AreParts (λ xs t. next_or_end (ends t) (judge xs t)) item (λ xs t. only_end (ends t) (past t)) Rest
+  parts_of ends judge past item Rest end e reads = record {
+    end = λ xs. end;
+    ends = λ xs. ap (λ b. next_or_end b (judge xs end)) e;
+    reads = reads;
+    last_to = λ xs t u h. end_only (ends t) (judge xs t) (past t) u h;
+    last_from = λ xs t h. only_end_again (ends t) (judge xs t) (past t) h;
+  }
 
 module _ {T W A C : Type 0} (missing : W) (start : List A → T → Result (Option C) W) (item : List A → C → List T → Reading T W A) (last : List A → T → Result (Unit {0}) W) (Rest : List A → C → List T → A → Type 0) (parts : AreParts start item last Rest) where
   abbrev ItemOrEnd : List A → Option C → List T → Next (List A) (List A) → Type 0

@@ -1,11 +1,22 @@
 -- Lists in a text: one item after another until a token ends the list.
-use Rattle.std.specs.Prelude.{◌≡◌, ◌≤◌, ℕ, List, [], ◌∷◌, ◌++◌, length, Bool, true, false, Option, Some, None, Result, Ok}
+use Rattle.std.specs.Prelude.{◌≡◌, ◌≤◌, ℕ, List, [], ◌∷◌, ◌++◌, length, Bool, true, false, Option, Some, None, Result, Ok, Err}
 use Rattle.trop_grammar.specs.Reading.{Reading, ◌>>=◌, gives, token_at, until_at, Next, More, Done}
 use Rattle.trop_grammar.specs.Grammar.{One, Then}
 
 -- the judge lets the token pass, as x
 abbrev pub Passes : {T W A : Type 0} → (T → Result A W) → T → A → Type 0
 Passes judge t x = judge t ≡ Ok x
+
+-- where a token ends the list, the end; else an item, if the judge lets the token begin one
+abbrev pub next_or_end : {W C : Type 0} → Bool → Result C W → Result (Option C) W
+next_or_end true word = Ok None
+next_or_end false (Ok c) = Ok (Some c)
+next_or_end false (Err what) = Err what
+
+-- where no item may follow, a token that ends the list; any other is wrong
+abbrev pub only_end : {W : Type 0} → Bool → W → Result (Unit {0}) W
+only_end true what = Ok tt
+only_end false what = Err what
 
 -- ---- reading
 
