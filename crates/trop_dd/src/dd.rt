@@ -1,0 +1,134 @@
+ghost use Rattle.std.specs.Prelude.{◌≡◌, ◌-◌, ◌*◌, ◌^◌, ◌<◌, ◌≤◌, [], ◌∷◌, ◌++◌, All, OnOk, OnErr, IfOk, IfErr, length, take};
+ghost use Rattle.trop_theory.specs.Vectors.{row_size};
+ghost use Rattle.trop_theory.specs.Inequalities.{IsIn, Solves, inequality_size, system_size};
+ghost use Rattle.trop_theory.specs.Canonical.{IsOverLimit};
+ghost use Rattle.trop_dd.specs.Description.{Description, Describes, CountsNew, IsRefusedBy};
+ghost use Rattle.trop_dd.specs.Units.{IsUnitRow};
+
+use crate::error::DdErr;
+use crate::narrowing::narrowed;
+use crate::units::unit_rows;
+use std::alloc::{AllocError, Global};
+use std::marker::Model;
+use trop_hyper::Looks;
+use trop_row::{Gens, Ineq, Row, System};
+use trop_scalar::Scalar;
+
+type NoMemory = AllocError;
+
+/// A system of inequalities together with the canonical list of its solutions, which grow and shrink inequality by
+/// inequality (Allamigeon, Gaubert, Goubault: The tropical double description method, 2010). Contracts see the number
+/// `n` of coordinates, from 1 to 64, the list `system` of the inequalities pushed so far and the list `rows`.
+#[derive(Drop)]
+pub struct Dd<S: Scalar> {
+    system: System<S>,
+    rows: Gens<S>,
+}
+
+impl<S: Scalar> Model for Dd<S> {
+    ghost use Rattle.std.specs.Prelude.{◌≡◌, ◌≤◌, ◌^◌, All};
+    ghost use Rattle.trop_theory.specs.Inequalities.{IsIn, system_size};
+    ghost use Rattle.trop_dd.specs.Description.{Description, Describes};
+    ghost use Rattle.trop_dd.specs.Sound.{IsSound};
+
+    ghost Value = { Description S };
+
+    ghost view = { λ a. record { n = a.system.n; system = a.system.inequalities; rows = a.rows.rows } };
+
+    ghost invariant = { λ a. (a.rows.n ≡ a.system.n) × IsSound S.ring a.system.n a.system.inequalities a.rows.rows };
+}
+
+impl<S: Scalar> Dd<S> {
+    /// The whole space in `n` coordinates: no inequality, and the `n` unit rows.
+    pub fn new(alloc: Global, n: u32) -> Result<Dd<S>, NoMemory>
+        requires at_least { 1 ≤ n }
+        requires at_most { n ≤ 64 }
+        ensures width { IfOk result (λ dd. dd.n ≡ n) }
+        ensures system { IfOk result (λ dd. dd.system ≡ []) }
+        ensures described { IfOk result (λ dd. Describes S.ring n [] dd.rows) }
+        ensures units { IfOk result (λ dd. All (IsUnitRow S.ring n) dd.rows) }
+        ensures count { IfOk result (λ dd. length dd.rows ≡ n) }
+    {
+        Ok(Dd {
+            system: System::new(alloc, n),
+            rows: Gens::from_rows(n, unit_rows(alloc, n)?),
+        })
+    }
+
+    /// Adds an inequality. `Limit(k)` comes exactly where this is the k-th inequality and the first k have more than
+    /// 4,096 extreme rows. After a refusal nothing has changed but the count of looks, and the inequality is dropped.
+    pub fn push(&mut self, alloc: Global, ineq: Ineq<S>, looks: &mut Looks) -> Result<(), DdErr>
+        requires wide { IsIn self.old.n ineq }
+        requires size { inequality_size S.ring ineq ≤ 2 ^ 49 }
+        requires room { length self.old.system < 2 ^ 31 }
+        ensures width { self.new.n ≡ self.old.n }
+        ensures system { OnOk result (self.new.system ≡ self.old.system ++ ineq ∷ []) }
+        ensures described { OnOk result (Describes S.ring self.new.n self.new.system self.new.rows) }
+        ensures within { OnOk result (IsOverLimit S.ring (Solves S.ring self.old.n (self.old.system ++ ineq ∷ [])) → ⊥) }
+
+        // A refusal has its cause, and leaves everything.
+        ensures refused { IfErr result (IsRefusedBy S.ring self.old.n (self.old.system ++ ineq ∷ [])) }
+        ensures stays { OnErr result (self.new ≡ self.old) }
+
+        // Each new row costs a look.
+        ensures counts { OnOk result (CountsNew S.ring self.old.rows self.new.rows looks.old looks.new) }
+        ensures kept { looks.old ≤ looks.new }
+    {
+        let n = self.system.n();
+        let place = self.system.len();
+        self.system.push(ineq)?;
+        match narrowed(
+            alloc,
+            &self.system,
+            self.system.get(place),
+            self.rows.as_slice(),
+            looks,
+        ) {
+            Ok(rows) => {
+                self.rows = Gens::from_rows(n, rows);
+                Ok(())
+            }
+            Err(err) => {
+                drop_last(&mut self.system);
+                Err(err)
+            }
+        }
+    }
+
+    /// The canonical list of the solutions of all inequalities pushed. Where these have size at most M, the rows have
+    /// size at most 4 M (n - 1).
+    pub fn rows(&self) -> &Gens<S>
+        ensures rows { result.now.rows ≡ self.now.rows }
+        ensures width { result.now.n ≡ self.now.n }
+        ensures described { Describes S.ring self.now.n self.now.system self.now.rows }
+        ensures small { All (λ row. row_size S.ring row ≤ 4 * system_size S.ring self.now.system * (self.now.n - 1)) self.now.rows }
+    {
+        &self.rows
+    }
+
+    /// The canonical list by itself.
+    pub fn into_rows(self) -> Gens<S>
+        ensures rows { result.rows ≡ self.rows }
+        ensures width { result.n ≡ self.n }
+        ensures described { Describes S.ring self.n self.system self.rows }
+    {
+        self.rows
+    }
+
+    /// The inequalities pushed, in order.
+    pub fn system(&self) -> &System<S>
+        ensures inequalities { result.now.inequalities ≡ self.now.system }
+        ensures width { result.now.n ≡ self.now.n }
+    {
+        &self.system
+    }
+}
+
+// Takes the last inequality off and drops it.
+fn drop_last<S: Scalar>(system: &mut System<S>)
+    requires { 0 < length system.old.inequalities }
+    ensures inequalities { system.new.inequalities ≡ take (length system.old.inequalities - 1) system.old.inequalities }
+    ensures width { system.new.n ≡ system.old.n }
+{
+    let _last = system.pop();
+}
