@@ -3,3 +3,4 @@ pub mod Attaining
 pub mod Filled
 pub mod Reaching
 pub mod Judging
+pub mod Untrue

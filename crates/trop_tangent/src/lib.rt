@@ -8,9 +8,14 @@ mod hyperedge;
 mod hypergraph;
 mod rounds;
 mod size_bound;
+mod solution;
 
 pub use criterion::{is_extreme, is_extreme_in, types};
 pub use hyperedge::tight;
 pub use hypergraph::tangent;
 pub use size_bound::{extreme_entries_are_near, extreme_rows_are_small};
+pub use solution::first_untrue;
 pub use trop_hyper::Edge;
+
+#[cfg(test)]
+mod tests;
