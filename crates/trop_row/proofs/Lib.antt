@@ -7,3 +7,4 @@ pub mod NormalSteps
 pub mod Sorted
 pub mod Reduced
 pub mod StepMoves
+pub mod RowOrder

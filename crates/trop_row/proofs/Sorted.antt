@@ -41,7 +41,7 @@ each_contained : {X : Type 0} (xs : List X) (ys : List X) → ((x : X) → Conta
 each_contained xs ys h k d l = h (get_or xs k d) (k, l, get_or_default xs k (get_or xs k d) d l)
 
 module _ {V : Type 0} {R : Semiring V} (laws : SemiringLaws R) (same : V → V → Bool) (decides : (a b : V) → (same a b ≡ true) ↔ (a ≡ b)) where
-  rows_from_Equal : (x y : List V) → compare_rows same R x y ≡ Equal → x ≡ y
+  pub rows_from_Equal : (x y : List V) → compare_rows same R x y ≡ Equal → x ≡ y
   rows_from_Equal [] [] e = refl
   rows_from_Equal [] (b ∷ y) e = cc
   rows_from_Equal (a ∷ x) [] e = cc

@@ -4,10 +4,18 @@ ghost use Rattle.std.specs.Prelude.{◌≡◌, ◌↔◌, ℕ, List};
 ghost use Rattle.trop_theory.specs.Vectors.{AreWide};
 ghost use Rattle.trop_theory.specs.Inequalities.{Inequality, Solves, InGuard, IsIn};
 ghost use Rattle.trop_theory.specs.Combinations.{IsCombination};
-ghost use Rattle.trop_theory.specs.Canonical.{IsCanonical};
+ghost use Rattle.trop_theory.specs.Canonical.{IsCanonical, RowBelow};
+ghost use Rattle.trop_theory.specs.Compare.{compare_rows};
+ghost use Rattle.std.specs.declared.cmp.Ordering.TheVariants.{Less, Equal};
 ghost use Rattle.trop_theory.specs.StepList.{IsStepList};
 
 use trop_scalar::Scalar;
+
+/// The comparison of rows is their order, and rows are equal where they have the same entries.
+pub fn comparison_of_rows<S: Scalar>()
+    ensures below { (x y : List S) → (compare_rows S.eq S.ring x y ≡ Less) ↔ RowBelow S.ring x y }
+    ensures same { (x y : List S) → (compare_rows S.eq S.ring x y ≡ Equal) ↔ (x ≡ y) }
+{}
 
 /// The combinations of the list that the elementary step gives are exactly the combinations of the rows at which the
 /// inequality is true (Allamigeon, Gaubert, Goubault, The tropical double description method, 2010).

@@ -58,6 +58,7 @@ fn drop_combinations<S: Scalar>(rows: &mut Vec<Row<S>>, n: u32)
     ensures independent { AreIndependent S.ring n rows.new.items (length rows.new.items) }
     ensures same { (x : List S) → IsCombination S.ring n rows.old.items x ↔ IsCombination S.ring n rows.new.items x }
     ensures fewer { length rows.new.items ≤ length rows.old.items }
+    ensures sizes { rows_size S.ring rows.new.items ≤ 2 ^ 60 }
 {
     let mut k = 0;
     while k < rows.len() {
@@ -111,6 +112,7 @@ pub fn reduce<S: Scalar>(alloc: Global, gens: &Gens<S>) -> Result<Gens<S>, NoMem
     ensures same { IfOk result (λ out. (x : List S) → IsCombination S.ring gens.now.n gens.now.rows x ↔ IsCombination S.ring gens.now.n out.rows x) }
     ensures independent { IfOk result (λ out. AreIndependent S.ring gens.now.n out.rows (length out.rows)) }
     ensures fewer { IfOk result (λ out. length out.rows ≤ length gens.now.rows) }
+    ensures sizes { IfOk result (λ out. rows_size S.ring out.rows ≤ 2 ^ 60) }
 {
     let n = gens.n();
     let mut rows = normal_rows(alloc, gens.as_slice(), n)?;
