@@ -1,0 +1,4 @@
+pub mod Writing
+pub mod Reduced
+pub mod Sizes
+pub mod Ending

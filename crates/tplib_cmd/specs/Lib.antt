@@ -1,0 +1,7 @@
+pub mod Status
+pub mod Streams
+pub mod Commands
+pub mod Answers
+pub mod Ends
+pub mod Replies
+pub mod Sizes

@@ -1,0 +1,12 @@
+-- Sizes at which rows can be reduced.
+use Rattle.std.specs.Prelude.{◌≤◌, ◌^◌}
+use Rattle.trop_theory.specs.Vectors.{rows_size}
+use Rattle.trop_scalar.specs.MaxPlus.{max_ring}
+use Rattle.trop_scalar.specs.MinPlus.{min_ring}
+use Rattle.trop_scalar.specs.Truth.{truth_ring}
+use Rattle.trop_files.specs.Generators.{AnyRows, MaxRows, MinRows, BoolRows}
+
+abbrev pub AreSmall : AnyRows → Type 0
+AreSmall (MaxRows rows) = rows_size max_ring rows ≤ 2 ^ 59
+AreSmall (MinRows rows) = rows_size min_ring rows ≤ 2 ^ 59
+AreSmall (BoolRows rows) = rows_size truth_ring rows ≤ 2 ^ 59

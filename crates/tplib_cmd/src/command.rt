@@ -1,0 +1,23 @@
+ghost use Rattle.std.specs.Prelude.{◌≡◌, map, string_bytes, MatchOption, IsTrue, ◌↔◌};
+ghost use Rattle.trop_words.specs.declared.command.Command.{Command};
+ghost use Rattle.tplib_cmd.specs.Commands.{IsBuilt, IsCommand};
+
+use trop_words::{Command, read_words};
+
+// The built command that the words spell.
+pub(crate) fn read_command(words: &[String]) -> Option<Command<'_>>
+    ensures { MatchOption result ((command : Command) → IsCommand (map string_bytes words.now) command → ⊥) (λ command. IsCommand (map string_bytes words.now) command) }
+{
+    let command = read_words(words).ok()?;
+    if is_built(command) {
+        Some(command)
+    } else {
+        None
+    }
+}
+
+fn is_built(command: Command<'_>) -> bool
+    ensures { IsTrue result ↔ IsBuilt command.entry }
+{
+    matches!(command, Command::Reduce)
+}
