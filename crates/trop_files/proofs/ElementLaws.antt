@@ -35,7 +35,7 @@ module _ {V : Type 0} (R : Semiring V) (N : Numbering V) (bound : ℕ) where
   behind_reads behind p x e (Some y) = Reads-gives y
   behind_reads behind p x e None = Reads-judged Syntax behind p x e
 
-  nought_fits : min_behind N bound nought ≡ Ok (N.of (neg_ℤ (pos 0)))
+  pub nought_fits : min_behind N bound nought ≡ Ok (N.of (neg_ℤ (pos 0)))
   unfolding number
   nought_fits = let h : 0 ≤ bound = omega arith in rw (le-leb 0 bound h) refl
 

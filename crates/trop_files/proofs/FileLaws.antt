@@ -30,7 +30,7 @@ pub names_reads : Reads Anything names_at AreNames
 unfolding names_at
 names_reads = Reads-list Syntax next_name name_at (λ names. no_name) IsName names_parts most_names
 
-line_end_reads : Reads Anything (token_at Syntax line_end) (One (Passes line_end))
+pub line_end_reads : Reads Anything (token_at Syntax line_end) (One (Passes line_end))
 line_end_reads = Reads-judged Syntax line_end (LineEnd 1) tt refl
 
 kind_line_reads : (kind : List ℕ) → kind_word kind (sample kind) ≡ Ok tt → Reads Anything (kind_line_at kind) (IsKindLine kind)
@@ -84,7 +84,7 @@ generator_file_reads = Reads-then (header_reads (codes "gens") refl) generator_r
 abbrev pub IsInputEnd : Piece → Type 0
 IsInputEnd p = is_input_end p ≡ true
 
-only_at_end : {V : Type 0} (b : Bool) (word : Result V FaultKind) → next_or_end b word ≡ Ok None → b ≡ true
+pub only_at_end : {V : Type 0} (b : Bool) (word : Result V FaultKind) → next_or_end b word ≡ Ok None → b ≡ true
 only_at_end true word h = refl
 only_at_end false (Ok x) h = absurd cc
 only_at_end false (Err what) h = absurd cc

@@ -20,7 +20,7 @@ use Rattle.trop_files.specs.Generators.{generators_at, generator_body_at, genera
 use Rattle.trop_files.proofs.Loops.{fails_with}
 
 -- the header of this semiring
-abbrev header : RingName → List (List ℕ) → ℕ → Header
+abbrev pub header : RingName → List (List ℕ) → ℕ → Header
 header ring texts line = record { ring = kind_of ring; names = texts; vars_line = line }
 
 module _ (texts : List (List ℕ)) (line vars : ℕ) (ts : List Piece) where

@@ -5,3 +5,6 @@ pub mod Loops
 pub mod Outcomes
 pub mod Kept
 pub mod GeneratorBodies
+pub mod InequalityLaws
+pub mod InequalityFileLaws
+pub mod InequalityBodies

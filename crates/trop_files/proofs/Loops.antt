@@ -1,8 +1,8 @@
 -- What a loop of a reader answers where a part of it fails.
-use Rattle.std.proofs.Common.{◌≡◌, ◌<◌, ◌-◌, ◌≤◌, ℕ, List, Option, Result, Ok, Err, refl, sym, ◌∙◌, subst}
+use Rattle.std.proofs.Common.{◌≡◌, ◌<◌, ◌-◌, ◌≤◌, ℕ, Bool, List, Option, Result, Ok, Err, refl, sym, ◌∙◌, subst}
 use Rattle.trop_grammar.specs.Reading.{Reading, Miss, token_at, repeat_at}
-use Rattle.trop_grammar.specs.Lists.{list_step, list_at}
-use Rattle.trop_grammar.proofs.Loops.{repeat-fails, list-fails, list-unclosed}
+use Rattle.trop_grammar.specs.Lists.{list_step, list_at, separated_step, separated_last, separated_at}
+use Rattle.trop_grammar.proofs.Loops.{repeat-fails, list-fails, list-unclosed, separated-fails, separated-last}
 use Rattle.trop_text.specs.Pieces.{Piece}
 use Rattle.trop_text.specs.declared.fault.FaultKind.{FaultKind}
 use Rattle.trop_text.specs.declared.fault.FaultKind.TheVariants.{Syntax}
@@ -28,3 +28,13 @@ module _ {A C : Type 0} (start : List A → Piece → Result (Option C) FaultKin
 
   pub list_left_open : (e : ReadErr) (n k : ℕ) (xs : List A) (ts : List Piece) (whole : Reading Piece FaultKind (List A)) → n ≤ k → Fails e (token_at Syntax (last xs) ts) → list_at Syntax start item last (n - k) xs ts ≡ whole → Fails e whole
   list_left_open e n k xs ts whole past h so_far = fails_with e (token_at Syntax (last xs) ts) whole h (λ miss m. sym so_far ∙ list-unclosed Syntax start item last n k xs ts miss past m)
+
+-- ---- lists with separators
+
+module _ {A : Type 0} (item : List Piece → Reading Piece FaultKind A) (between : Piece → Result Bool FaultKind) (close : Piece → Result (Unit {0}) FaultKind) where
+
+  pub separated_failed : (e : ReadErr) (n k : ℕ) (xs : List A) (ts : List Piece) (whole : Reading Piece FaultKind (List A)) → k < n → Fails e (separated_step Syntax item between xs ts) → separated_at Syntax item between close (n - k) xs ts ≡ whole → Fails e whole
+  separated_failed e n k xs ts whole below h so_far = fails_with e (separated_step Syntax item between xs ts) whole h (λ miss m. sym so_far ∙ separated-fails Syntax item between close n k xs ts miss below m)
+
+  pub separated_left_open : (e : ReadErr) (n k : ℕ) (xs : List A) (ts : List Piece) (whole : Reading Piece FaultKind (List A)) → n ≤ k → Fails e (separated_last Syntax item close xs ts) → separated_at Syntax item between close (n - k) xs ts ≡ whole → Fails e whole
+  separated_left_open e n k xs ts whole past h so_far = fails_with e (separated_last Syntax item close xs ts) whole h (λ miss m. sym so_far ∙ separated-last Syntax item between close n k xs ts past ∙ m)

@@ -12,3 +12,6 @@ pub mod Headers
 pub mod Outcome
 pub mod ListEnds
 pub mod GeneratorFiles
+pub mod Inequalities
+pub mod InequalityFiles
+pub mod HeldInequalities

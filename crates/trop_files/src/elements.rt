@@ -73,7 +73,7 @@ fn truth<S: Scalar>(piece: Piece<'_>) -> Result<S, FaultKind>
 
 // What stands behind the first token of a number or of `-oo`.
 #[tactic(auto, unfolding(trop_grammar::specs::Reading::token_at, trop_grammar::specs::Reading::gives, crate::specs::Elements::behind_at))]
-fn max_rest<'a, S: Scalar>(
+pub(crate) fn max_rest<'a, S: Scalar>(
     start: Option<S>,
     at: Pieces<'a>,
     bound: u64,
@@ -89,7 +89,7 @@ fn max_rest<'a, S: Scalar>(
 }
 
 #[tactic(auto, unfolding(trop_grammar::specs::Reading::token_at, trop_grammar::specs::Reading::gives, crate::specs::Elements::behind_at))]
-fn min_rest<'a, S: Scalar>(
+pub(crate) fn min_rest<'a, S: Scalar>(
     start: Option<S>,
     at: Pieces<'a>,
     bound: u64,

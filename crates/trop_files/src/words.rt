@@ -26,6 +26,16 @@ pub(crate) fn says(piece: Piece<'_>, text: &[u8]) -> bool
     text_of(piece) == text
 }
 
+// Whether the piece is a number.
+pub(crate) fn is_digits(piece: Piece<'_>) -> bool
+    ensures { result ≡ spec.is_digits (piece_of piece.entry) }
+{
+    match piece {
+        Piece::Token(token) => token.kind == TokenKind::Digits,
+        Piece::LineEnd(_) | Piece::InputEnd => false,
+    }
+}
+
 // A number that is at most the bound.
 #[tactic(auto, unfolding(crate::specs::Words::number))]
 pub(crate) fn number(piece: Piece<'_>, bound: u64) -> Result<u64, FaultKind>
