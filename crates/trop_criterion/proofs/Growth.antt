@@ -114,6 +114,14 @@ module _ (reaches : ℕ → ℕ → Type 0) (nodes : ℕ) where
     complete = λ t n g. (both t).1 (h.complete t n g, (closure t).1 (g k node));
   }
 
+  -- a node that reaches one of those before it reaches all that is common
+  pub IsCommon-through : (k now d : ℕ) → IsCommon reaches nodes k now → d < k → Has nodes d → reaches k d → ((t : ℕ) → reaches d t → reaches k t) → IsCommon reaches nodes (k + 1) now
+  IsCommon-through k now d h l node r over = record {
+    node = h.node;
+    reached = λ t g u m f. ⊎_elim (λ n. h.reached t g u n f) (λ n. subst (λ w. reaches w t) (omega arith) (over t (h.reached t g d l node))) (cases_lt u k);
+    complete = h.complete;
+  }
+
   pub IsCommon-skip : (k now : ℕ) → IsCommon reaches nodes k now → (Has nodes k → ⊥) → IsCommon reaches nodes (k + 1) now
   IsCommon-skip k now h out = record {
     node = h.node;
@@ -126,3 +134,16 @@ module _ (reaches : ℕ → ℕ → Type 0) (nodes : ℕ) where
 
   pub IsCommon-none : (k now : ℕ) → IsCommon reaches nodes k now → ((i : ℕ) → Has now i → ⊥) → (t : ℕ) → Has now t ↔ IsLast reaches nodes t
   IsCommon-none k now h none t = (λ g. absurd (none t g), λ l. h.complete t l.node l.reached)
+
+-- the first k nodes
+abbrev pub AreBefore : ℕ → ℕ → ℕ → Type 0
+AreBefore nodes k before = (d : ℕ) → Has before d → (d < k) × Has nodes d
+
+pub AreBefore-more : (nodes k before next : ℕ) → AreBefore nodes k before → Has nodes k → ((j : ℕ) → Has next j ↔ ((j ≡ k) ⊎ Has before j)) → AreBefore nodes (k + 1) next
+AreBefore-more nodes k before next h node members d here = ⊎_elim
+    (λ e. (omega (arith, e), subst (Has nodes) (sym e) node))
+    (λ old. let p = h d old in (omega (arith, p.0), p.1))
+    ((members d).0 here)
+
+pub AreBefore-skip : (nodes k before : ℕ) → AreBefore nodes k before → AreBefore nodes (k + 1) before
+AreBefore-skip nodes k before h d here = let p = h d here in (omega (arith, p.0), p.1)

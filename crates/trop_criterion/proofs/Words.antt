@@ -1,6 +1,6 @@
 -- How many members a set has that is kept as a word.
 use Rattle.std.proofs.Common.{◌≡◌, ◌⊎◌, ◌<◌, ◌≤◌, ◌+◌, ◌/◌, ◌%◌, ◌^◌, ℕ, zero, suc, Bool, List, ⊎_elim, refl, sym, ap, ◌∙◌, arith, subst}
-use Rattle.std.specs.Prelude.{count_ones, All, Contains}
+use Rattle.std.specs.Prelude.{◌↔◌, count_ones, All, Contains}
 use Rattle.std.specs.Int.{bit_at}
 use Rattle.std.specs.Int.Count.{ones_step}
 use Rattle.std.proofs.Math.Nat.{pow-suc, div-lt_iff_lt-mul}
@@ -92,3 +92,15 @@ Reaches-itself edges u set here keeps = here
 -- the head of a hyperedge whose tail is reached is reached
 pub Reaches-head : (edges : List Hyperedge) (edge : Hyperedge) (u : ℕ) → Contains edges edge → ((j : ℕ) → Has edge.tail j → Reaches edges u j) → (i : ℕ) → Has edge.head i → Reaches edges u i
 Reaches-head edges edge u c tail i h set here keeps = All-contains (Keeps set) edges edge keeps c (λ j g. tail j g set here keeps) i h
+
+-- what is reached from a reached node is reached
+pub Reaches-over : (edges : List Hyperedge) (u v w : ℕ) → Reaches edges u v → Reaches edges v w → Reaches edges u w
+Reaches-over edges u v w p q set here keeps = q set (p set here keeps) keeps
+
+-- two sets that are not disjoint have a common member
+pub some_common : (k a b both : ℕ) → both < 2 ^ k → ((i : ℕ) → Has both i ↔ (Has a i × Has b i)) → (((i : ℕ) → Has both i → ⊥) → ⊥) → (i : ℕ) × Has a i × Has b i
+some_common k a b both p members f =
+    ⊎_elim
+    (λ s. let m = (members s.0).0 s.2 in (s.0, m.0, m.1))
+    (λ none. absurd (f (λ i h. none i (has_within k both i p h) h)))
+    (some_below (Has both) (decide_has both) k)
