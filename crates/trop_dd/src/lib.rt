@@ -16,3 +16,6 @@ pub use convert::extreme_rows;
 pub use dd::Dd;
 pub use error::DdErr;
 pub use laws::equal_rows_are_equal_solutions;
+
+#[cfg(test)]
+mod tests;
