@@ -8,3 +8,5 @@ pub mod GeneratorBodies
 pub mod InequalityLaws
 pub mod InequalityFileLaws
 pub mod InequalityBodies
+pub mod AtFileLaws
+pub mod AtBodies

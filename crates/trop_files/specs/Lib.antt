@@ -15,3 +15,5 @@ pub mod GeneratorFiles
 pub mod Inequalities
 pub mod InequalityFiles
 pub mod HeldInequalities
+pub mod AtFiles
+pub mod HeldPlaces

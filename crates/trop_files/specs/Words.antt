@@ -44,6 +44,10 @@ is_digits (Token t) = is_digits_kind t.kind
 is_digits (LineEnd line) = false
 is_digits InputEnd = false
 
+-- the end of the input
+abbrev pub input_end : Piece → Result (Unit {0}) FaultKind
+input_end p = if is_input_end p then Ok tt else Err Syntax
+
 -- digits of a value that is at most the bound
 unfoldable pub number : ℕ → Piece → Result ℕ FaultKind
 number bound p =

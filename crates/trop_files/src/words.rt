@@ -75,6 +75,17 @@ pub(crate) fn line_end<'a>(at: Pieces<'a>) -> Result<Pieces<'a>, ReadErr<'a>>
     }
 }
 
+// The end of the input.
+#[tactic(auto, unfolding(trop_grammar::specs::Reading::token_at))]
+pub(crate) fn input_end<'a>(at: Pieces<'a>) -> Result<Pieces<'a>, ReadErr<'a>>
+    ensures { Gives (λ rest. (tt, pieces_left rest)) result (token_at Syntax spec.input_end (pieces_left at.entry)) }
+{
+    match at.next() {
+        Some((Piece::InputEnd, rest)) => Ok(rest),
+        _ => Err(ReadErr::Wrong(FaultKind::Syntax, at)),
+    }
+}
+
 // The word on the piece at which a reader stands, with what is behind it.
 pub(crate) fn settle<'a, X>(
     word: Result<X, FaultKind>,
