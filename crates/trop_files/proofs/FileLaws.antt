@@ -89,7 +89,7 @@ only_at_end true word h = refl
 only_at_end false (Ok x) h = absurd cc
 only_at_end false (Err what) h = absurd cc
 
-generators_end : {V : Type 0} (kind : RingKind) (R : Semiring V) (N : Numbering V) (vars : ℕ) → EndsWith IsInputEnd (AreGenerators kind R N vars is_input_end)
+pub generators_end : {V : Type 0} (kind : RingKind) (R : Semiring V) (N : Numbering V) (vars : ℕ) → EndsWith IsInputEnd (AreGenerators kind R N vars is_input_end)
 generators_end kind R N vars = EndsWith-gives (EndsWith-listed (λ rows t h. only_at_end (is_input_end t) (generator_word R t) h))
 
 generator_body_ends : (h : Header) (kind : RingKind) → EndsWith IsInputEnd (IsGeneratorBody h is_input_end kind)

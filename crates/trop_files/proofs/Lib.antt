@@ -10,3 +10,5 @@ pub mod InequalityFileLaws
 pub mod InequalityBodies
 pub mod AtFileLaws
 pub mod AtBodies
+pub mod PairFileLaws
+pub mod PairBodies

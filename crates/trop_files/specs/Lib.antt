@@ -17,3 +17,5 @@ pub mod InequalityFiles
 pub mod HeldInequalities
 pub mod AtFiles
 pub mod HeldPlaces
+pub mod PairFiles
+pub mod HeldPairs

@@ -11,6 +11,7 @@ mod header;
 mod inequalities;
 mod inequality;
 mod list_end;
+mod pair;
 mod place;
 mod print_file;
 mod print_row;
@@ -24,6 +25,7 @@ mod words;
 
 pub use generators::{AnyGens, GenFile, read_gens};
 pub use inequalities::{AnyIneqs, IneqFile, read_ineqs};
+pub use pair::{AnyPair, PairFile, read_pair};
 pub use place::{AnyAt, AtFile, read_at};
 pub use print_file::{print_gens, print_ineqs};
 pub use print_row::row_text;
