@@ -1,0 +1,30 @@
+use std::alloc::Global;
+use std::test::Fail;
+use tplib_cmd::run;
+use trop_io::{MemSink, MemSource};
+
+// Whether a run of the words on the input ends with this code and writes exactly this.
+pub(super) fn ends_so(
+    alloc: Global,
+    words: &str,
+    input: &[u8],
+    code: u8,
+    out: &[u8],
+    err: &[u8],
+) -> Result<bool, Fail> {
+    let words = split(alloc, words)?;
+    let bytes = Vec::from_slice(alloc, input)?;
+    let mut input = MemSource::new(bytes, 4096, Vec::new(alloc));
+    let mut answer = MemSink::new(alloc, 1_048_576, 4096, Vec::new(alloc))?;
+    let mut line = MemSink::new(alloc, 256, 64, Vec::new(alloc))?;
+    let status = run(alloc, &words, &mut input, &mut answer, &mut line);
+    Ok(status.code() == code && answer.bytes() == out && line.bytes() == err)
+}
+
+pub(super) fn split(alloc: Global, words: &str) -> Result<Vec<String>, Fail> {
+    let mut list = Vec::new(alloc);
+    for word in words.split(' ') {
+        list.push(String::from_str(alloc, word)?)?;
+    }
+    Ok(list)
+}
