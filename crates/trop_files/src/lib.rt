@@ -33,4 +33,6 @@ pub use print_side::ineq_text;
 pub use spelling::{NoMemory, Spelling};
 
 #[cfg(test)]
+mod reader_tests;
+#[cfg(test)]
 mod tests;
