@@ -1,4 +1,5 @@
 pub mod Writing
 pub mod Reduced
-pub mod Sizes
 pub mod Ending
+pub mod Independent
+pub mod Converted

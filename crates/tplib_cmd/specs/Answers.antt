@@ -1,9 +1,10 @@
 -- The answer of each command to the bytes of its input.
-use Rattle.std.specs.Prelude.{◌≡◌, ◌↔◌, ◌+◌, ℕ, List, length}
+use Rattle.std.specs.Prelude.{◌≡◌, ◌↔◌, ◌+◌, ◌<◌, ◌≤◌, ℕ, List, length, take}
 use Rattle.trop_theory.specs.Semiring.{Semiring}
 use Rattle.trop_theory.specs.Numbers.{Numbering}
 use Rattle.trop_theory.specs.Combinations.{IsCombination, AreIndependent}
-use Rattle.trop_theory.specs.Canonical.{IsCanonical}
+use Rattle.trop_theory.specs.Canonical.{IsCanonical, IsOverLimit}
+use Rattle.trop_theory.specs.Inequalities.{Inequality, Solves}
 use Rattle.trop_scalar.specs.MaxPlus.{max_ring, max_numbering}
 use Rattle.trop_scalar.specs.MinPlus.{min_ring}
 use Rattle.trop_scalar.specs.Truth.{truth_ring, truth_numbering}
@@ -12,25 +13,30 @@ use Rattle.trop_text.specs.declared.fault.Fault.{Fault}
 use Rattle.trop_files.specs.Spelling.{RingKind, MaxKind, MinKind, BoolKind}
 use Rattle.trop_files.specs.Printed.{printed_gens}
 use Rattle.trop_files.specs.Generators.{GeneratorFile, AnyRows, MaxRows, MinRows, BoolRows, SpellsGenerators, generator_file_at}
+use Rattle.trop_files.specs.InequalityFiles.{InequalityFile, AnyInequalities, MaxInequalities, MinInequalities, BoolInequalities, SpellsInequalities, inequality_file_at}
 use Rattle.trop_files.specs.Outcome.{IsFault}
 use Rattle.trop_words.specs.declared.command.Command.{Command}
-use Rattle.trop_words.specs.declared.command.Command.TheVariants.{Reduce}
+use Rattle.trop_words.specs.declared.command.Command.TheVariants.{Reduce, Ext}
 use Rattle.tplib_cmd.specs.declared.status.Stop.{Stop}
+use Rattle.tplib_cmd.specs.declared.status.Stop.TheVariants.{Rows}
 use Rattle.tplib_cmd.specs.declared.status.Status.{Status}
 use Rattle.tplib_cmd.specs.declared.status.Status.TheVariants.{Done}
 
 -- what an input says
 pub data Value : Type 0 where
   Generators : GeneratorFile → Value
+  Inequalities : InequalityFile → Value
 
 -- the bytes of the command's input spell this value
 abbrev pub Spells : Command → List ℕ → Value → Type 0
 Spells Reduce bytes (Generators file) = SpellsGenerators (pieces_of bytes) file
+Spells Ext bytes (Inequalities file) = SpellsInequalities (pieces_of bytes) file
 Spells _ bytes value = ⊥
 
 -- the bytes spell nothing that the command takes, and this is their first fault
 abbrev pub HasFault : Command → List ℕ → Fault → Type 0
 HasFault Reduce bytes fault = IsFault SpellsGenerators generator_file_at bytes fault
+HasFault Ext bytes fault = IsFault SpellsInequalities inequality_file_at bytes fault
 HasFault _ bytes fault = ⊥
 
 -- The text is the file of the canonical list of the combinations of the rows. The rows that it prints generate the same
@@ -48,13 +54,42 @@ IsReducedFile names (MaxRows rows) text = IsReduced MaxKind max_ring max_numberi
 IsReducedFile names (MinRows rows) text = IsReduced MinKind min_ring max_numbering names rows text
 IsReducedFile names (BoolRows rows) text = IsReduced BoolKind truth_ring truth_numbering names rows text
 
+-- The first k inequalities are the least front of the system whose solutions have more extreme rows than a cone may have.
+pub record IsRowsStop {V : Type 0} (R : Semiring V) (n : ℕ) (system : List (Inequality V)) (k : ℕ) : Type 0 where
+  pub within : k ≤ length system
+  pub over : IsOverLimit R (Solves R n (take k system))
+  pub least : (j : ℕ) → j < k → IsOverLimit R (Solves R n (take j system)) → ⊥
+
+-- The text is the file of the canonical list of the solutions of the inequalities. The rows that it prints generate just
+-- the solutions, and none of them is a combination of the others.
+pub record IsConverted {V : Type 0} (kind : RingKind) (R : Semiring V) (N : Numbering V) (names : List (List ℕ)) (system : List (Inequality V)) (text : List ℕ) : Type 0 where
+  pub answer : List (List V)
+  pub canonical : IsCanonical R (Solves R (length names + 1) system) answer
+  pub generates : (x : List V) → Solves R (length names + 1) system x ↔ IsCombination R (length names + 1) answer x
+  pub independent : AreIndependent R (length names + 1) answer (length answer)
+  pub unstopped : (k : ℕ) → IsRowsStop R (length names + 1) system k → ⊥
+  pub printed : text ≡ printed_gens kind N names answer
+
+-- the same in the semiring of the file
+abbrev pub IsConvertedFile : List (List ℕ) → AnyInequalities → List ℕ → Type 0
+IsConvertedFile names (MaxInequalities system) text = IsConverted MaxKind max_ring max_numbering names system text
+IsConvertedFile names (MinInequalities system) text = IsConverted MinKind min_ring max_numbering names system text
+IsConvertedFile names (BoolInequalities system) text = IsConverted BoolKind truth_ring truth_numbering names system text
+
+abbrev pub StopsFile : List (List ℕ) → AnyInequalities → ℕ → Type 0
+StopsFile names (MaxInequalities system) k = IsRowsStop max_ring (length names + 1) system k
+StopsFile names (MinInequalities system) k = IsRowsStop min_ring (length names + 1) system k
+StopsFile names (BoolInequalities system) k = IsRowsStop truth_ring (length names + 1) system k
+
 -- the command answers the value with this status and this text
 abbrev pub Answers : Command → Value → Status → List ℕ → Type 0
 Answers Reduce (Generators file) Done text = IsReducedFile file.names file.rows text
+Answers Ext (Inequalities file) Done text = IsConvertedFile file.names file.inequalities text
 Answers _ value status text = ⊥
 
 -- the computation stops there, because a cone would have too many rows; and because a row would have too great a size
 abbrev pub HasLimit : Command → Value → Stop → Type 0
+HasLimit Ext (Inequalities file) (Rows k) = StopsFile file.names file.inequalities k
 HasLimit _ value stop = ⊥
 
 abbrev pub HasRange : Command → Value → Stop → Type 0

@@ -4,4 +4,3 @@ pub mod Commands
 pub mod Answers
 pub mod Ends
 pub mod Replies
-pub mod Sizes

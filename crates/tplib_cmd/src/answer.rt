@@ -5,6 +5,7 @@ ghost use Rattle.tplib_cmd.specs.Ends.{IsAnswered};
 ghost use Rattle.tplib_cmd.specs.Replies.{IsRefused, status_of};
 
 use crate::Stop;
+use crate::ext::convert_file;
 use crate::reduce::reduce_file;
 use std::alloc::Global;
 use trop_text::Fault;
@@ -39,6 +40,7 @@ pub fn answer(alloc: Global, command: Command<'_>, bytes: &[u8]) -> Result<Reply
 {
     match command {
         Command::Reduce => reduce_file(alloc, bytes),
+        Command::Ext => convert_file(alloc, bytes),
         _ => unreachable!(),
     }
 }

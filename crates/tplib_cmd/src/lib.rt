@@ -7,6 +7,7 @@
 
 mod answer;
 mod command;
+mod ext;
 mod reduce;
 mod report;
 mod status;

@@ -3,7 +3,7 @@ ghost use Rattle.trop_theory.specs.Vectors.{rows_size};
 ghost use Rattle.trop_words.specs.declared.command.Command.TheVariants.{Reduce};
 ghost use Rattle.trop_files.specs.GeneratorFiles.{generator_file_of, IsWideGens};
 ghost use Rattle.tplib_cmd.specs.Answers.{IsReduced, IsReducedFile};
-ghost use Rattle.tplib_cmd.specs.Sizes.{AreSmall};
+ghost use Rattle.trop_files.specs.Sizes.{AreSmall};
 ghost use Rattle.tplib_cmd.specs.Ends.{IsAnswered};
 ghost use Rattle.tplib_cmd.specs.Replies.{IsRefused, status_of};
 

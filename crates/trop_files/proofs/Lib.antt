@@ -12,3 +12,4 @@ pub mod AtFileLaws
 pub mod AtBodies
 pub mod PairFileLaws
 pub mod PairBodies
+pub mod ReadSizes

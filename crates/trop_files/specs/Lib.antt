@@ -19,3 +19,4 @@ pub mod AtFiles
 pub mod HeldPlaces
 pub mod PairFiles
 pub mod HeldPairs
+pub mod Sizes

@@ -1,6 +1,6 @@
 use Rattle.trop_files.specs.GeneratorFiles.{generator_file_of}
 use Rattle.tplib_cmd.specs.Answers.{Generators}
-use Rattle.tplib_cmd.proofs.Sizes.{file_small}
+use Rattle.trop_files.proofs.ReadSizes.{file_small}
 use Rattle.tplib_cmd.proofs.reduce.reduce_file.Goals as goal
 
 pub reduced_file-requires-clause-sizes : goal.reduced_file-requires-clause-sizes
