@@ -210,7 +210,7 @@ fn streams_that_fail_at_each_call_in_turn(rt: HostRuntime) -> Result<(), Fail> {
     let alloc = rt.alloc();
     for read in 1..=5 {
         let (code, out, err) = fails_at(alloc, read, 0, 2)?;
-        assert!(rt; code == 6 && out.bytes().is_empty() && err.bytes() == b"tplib: r".as_slice());
+        assert!(rt; code == 6 && out.bytes().is_empty() && err.bytes() == b"tplib: ".as_slice());
     }
     for write in 1..=6 {
         let (code, out, err) = fails_at(alloc, 0, write, 1)?;
