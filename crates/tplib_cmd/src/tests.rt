@@ -212,12 +212,12 @@ fn streams_that_fail_at_each_call_in_turn(rt: HostRuntime) -> Result<(), Fail> {
         let (code, out, err) = fails_at(alloc, read, 0, 2)?;
         assert!(rt; code == 6 && out.bytes().is_empty() && err.bytes() == b"tplib: ".as_slice());
     }
-    for write in 1..=6 {
+    for write in 1..=7 {
         let (code, out, err) = fails_at(alloc, 0, write, 1)?;
         assert!(rt; code == 7 && ANSWER.starts_with(out.bytes()) && err.bytes().is_empty());
         assert!(rt; out.bytes().len() as u64 + 8 == 8 * write);
     }
-    let (code, out, err) = fails_at(alloc, 6, 7, 1)?;
+    let (code, out, err) = fails_at(alloc, 6, 8, 1)?;
     assert!(rt; code == 0 && out.bytes() == ANSWER && err.bytes().is_empty());
     Ok(())
 }
