@@ -4,3 +4,7 @@ mod devices;
 mod ending;
 mod gens_answers;
 mod gens_faults;
+mod groups;
+mod ineqs_answers;
+mod ineqs_faults;
+mod plain;

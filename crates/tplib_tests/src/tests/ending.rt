@@ -28,3 +28,17 @@ pub(super) fn split(alloc: Global, words: &str) -> Result<Vec<String>, Fail> {
     }
     Ok(list)
 }
+
+// What a run of the words on the input writes, where it ends with the code 0.
+pub(super) fn answer_of(alloc: Global, words: &str, input: &[u8]) -> Result<Option<Vec<u8>>, Fail> {
+    let words = split(alloc, words)?;
+    let bytes = Vec::from_slice(alloc, input)?;
+    let mut input = MemSource::new(bytes, 4096, Vec::new(alloc));
+    let mut out = MemSink::new(alloc, 65_536, 4096, Vec::new(alloc))?;
+    let mut err = MemSink::new(alloc, 256, 64, Vec::new(alloc))?;
+    let status = run(alloc, &words, &mut input, &mut out, &mut err);
+    if status.code() != 0 {
+        return Ok(None);
+    }
+    Ok(Some(Vec::from_slice(alloc, out.bytes())?))
+}
