@@ -4,11 +4,11 @@ use Rattle.std.proofs.lemmas.List.{append-nil, length-append}
 use Rattle.std.specs.Io.KnownBytes.{Consumes, IsAtEnd, Keeps}
 use Rattle.trop_io.specs.Faults.{Rose}
 use Rattle.trop_words.specs.declared.command.Command.{Command}
-use Rattle.trop_words.specs.declared.command.Command.TheVariants.{Reduce, Ext}
+use Rattle.trop_words.specs.declared.command.Command.TheVariants.{Reduce, Ext, Tangent}
 use Rattle.trop_text.specs.declared.fault.Fault.{Fault}
 use Rattle.tplib_cmd.specs.declared.status.Status.{Status}
 use Rattle.tplib_cmd.specs.declared.status.Status.TheVariants.{Done, No, BadWords, Text, TooLong, Limit, Range, ReadFault, WriteFault, NoMemory}
-use Rattle.tplib_cmd.specs.Answers.{Value, Generators, Inequalities, Spells, HasFault}
+use Rattle.tplib_cmd.specs.Answers.{Value, Generators, Inequalities, AtVector, Spells, HasFault}
 use Rattle.tplib_cmd.specs.Streams.{longest_input}
 use Rattle.tplib_cmd.specs.Ends.{Run, Ends, EndsWith, IsInOrder, IsRunnable, IsAnswer}
 
@@ -31,6 +31,11 @@ faulty Reduce bytes fault (Generators file) h s = h.first.spelled file s
 faulty Reduce bytes fault (Inequalities file) h s = absurd s
 faulty Ext bytes fault (Inequalities file) h s = h.first.spelled file s
 faulty Ext bytes fault (Generators file) h s = absurd s
+faulty Reduce bytes fault (AtVector file) h s = absurd s
+faulty Ext bytes fault (AtVector file) h s = absurd s
+faulty Tangent bytes fault (AtVector file) h s = h.first.spelled file s
+faulty Tangent bytes fault (Generators file) h s = absurd s
+faulty Tangent bytes fault (Inequalities file) h s = absurd s
 faulty _ bytes fault value h s = absurd h
 
 -- a run with everything in order ends with an answer

@@ -3,3 +3,4 @@ pub mod Reduced
 pub mod Ending
 pub mod Independent
 pub mod Converted
+pub mod Looked

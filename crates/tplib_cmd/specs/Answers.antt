@@ -1,5 +1,5 @@
 -- The answer of each command to the bytes of its input.
-use Rattle.std.specs.Prelude.{◌≡◌, ◌↔◌, ◌+◌, ◌<◌, ◌≤◌, ℕ, List, length, take}
+use Rattle.std.specs.Prelude.{◌≡◌, ◌↔◌, ◌+◌, ◌<◌, ◌≤◌, ℕ, Bool, true, false, List, length, take}
 use Rattle.trop_theory.specs.Semiring.{Semiring}
 use Rattle.trop_theory.specs.Numbers.{Numbering}
 use Rattle.trop_theory.specs.Combinations.{IsCombination, AreIndependent}
@@ -14,29 +14,34 @@ use Rattle.trop_files.specs.Spelling.{RingKind, MaxKind, MinKind, BoolKind}
 use Rattle.trop_files.specs.Printed.{printed_gens}
 use Rattle.trop_files.specs.Generators.{GeneratorFile, AnyRows, MaxRows, MinRows, BoolRows, SpellsGenerators, generator_file_at}
 use Rattle.trop_files.specs.InequalityFiles.{InequalityFile, AnyInequalities, MaxInequalities, MinInequalities, BoolInequalities, SpellsInequalities, inequality_file_at}
+use Rattle.trop_files.specs.AtFiles.{PlaceFile, AnyPlace, MaxPlace, MinPlace, BoolPlace, SpellsPlace, place_file_at}
 use Rattle.trop_files.specs.Outcome.{IsFault}
+use Rattle.tplib_tangent.specs.Tangent.{IsTangentAnswer}
 use Rattle.trop_words.specs.declared.command.Command.{Command}
-use Rattle.trop_words.specs.declared.command.Command.TheVariants.{Reduce, Ext}
+use Rattle.trop_words.specs.declared.command.Command.TheVariants.{Reduce, Ext, Tangent}
 use Rattle.tplib_cmd.specs.declared.status.Stop.{Stop}
 use Rattle.tplib_cmd.specs.declared.status.Stop.TheVariants.{Rows}
 use Rattle.tplib_cmd.specs.declared.status.Status.{Status}
-use Rattle.tplib_cmd.specs.declared.status.Status.TheVariants.{Done}
+use Rattle.tplib_cmd.specs.declared.status.Status.TheVariants.{Done, No}
 
 -- what an input says
 pub data Value : Type 0 where
   Generators : GeneratorFile → Value
   Inequalities : InequalityFile → Value
+  AtVector : PlaceFile → Value
 
 -- the bytes of the command's input spell this value
 abbrev pub Spells : Command → List ℕ → Value → Type 0
 Spells Reduce bytes (Generators file) = SpellsGenerators (pieces_of bytes) file
 Spells Ext bytes (Inequalities file) = SpellsInequalities (pieces_of bytes) file
+Spells Tangent bytes (AtVector file) = SpellsPlace (pieces_of bytes) file
 Spells _ bytes value = ⊥
 
 -- the bytes spell nothing that the command takes, and this is their first fault
 abbrev pub HasFault : Command → List ℕ → Fault → Type 0
 HasFault Reduce bytes fault = IsFault SpellsGenerators generator_file_at bytes fault
 HasFault Ext bytes fault = IsFault SpellsInequalities inequality_file_at bytes fault
+HasFault Tangent bytes fault = IsFault SpellsPlace place_file_at bytes fault
 HasFault _ bytes fault = ⊥
 
 -- The text is the file of the canonical list of the combinations of the rows. The rows that it prints generate the same
@@ -81,10 +86,18 @@ StopsFile names (MaxInequalities system) k = IsRowsStop max_ring (length names +
 StopsFile names (MinInequalities system) k = IsRowsStop min_ring (length names + 1) system k
 StopsFile names (BoolInequalities system) k = IsRowsStop truth_ring (length names + 1) system k
 
+-- the tangent hypergraph at the vector, its types and whether it is extreme; or the first inequality that fails there
+abbrev pub IsPlaceAnswer : List (List ℕ) → AnyPlace → Bool → List ℕ → Type 0
+IsPlaceAnswer names (MaxPlace p) solves text = IsTangentAnswer max_ring names (length names + 1) p.inequalities p.row solves text
+IsPlaceAnswer names (MinPlace p) solves text = IsTangentAnswer min_ring names (length names + 1) p.inequalities p.row solves text
+IsPlaceAnswer names (BoolPlace p) solves text = IsTangentAnswer truth_ring names (length names + 1) p.inequalities p.row solves text
+
 -- the command answers the value with this status and this text
 abbrev pub Answers : Command → Value → Status → List ℕ → Type 0
 Answers Reduce (Generators file) Done text = IsReducedFile file.names file.rows text
 Answers Ext (Inequalities file) Done text = IsConvertedFile file.names file.inequalities text
+Answers Tangent (AtVector file) Done text = IsPlaceAnswer file.names file.place true text
+Answers Tangent (AtVector file) No text = IsPlaceAnswer file.names file.place false text
 Answers _ value status text = ⊥
 
 -- the computation stops there, because a cone would have too many rows; and because a row would have too great a size

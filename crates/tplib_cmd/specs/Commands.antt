@@ -2,12 +2,13 @@
 use Rattle.std.specs.Prelude.{ℕ, List}
 use Rattle.trop_words.specs.Words.{IsSpelled}
 use Rattle.trop_words.specs.declared.command.Command.{Command}
-use Rattle.trop_words.specs.declared.command.Command.TheVariants.{Reduce, Ext}
+use Rattle.trop_words.specs.declared.command.Command.TheVariants.{Reduce, Ext, Tangent}
 
 -- The command is built. Words of one that is not are bad words.
 abbrev pub IsBuilt : Command → Type 0
 IsBuilt Reduce = Unit {0}
 IsBuilt Ext = Unit {0}
+IsBuilt Tangent = Unit {0}
 IsBuilt _ = ⊥
 
 -- the words spell this command, and it is built

@@ -7,6 +7,7 @@ ghost use Rattle.tplib_cmd.specs.Replies.{IsRefused, status_of};
 use crate::Stop;
 use crate::ext::convert_file;
 use crate::reduce::reduce_file;
+use crate::tangent::look_at_file;
 use std::alloc::Global;
 use trop_text::Fault;
 use trop_words::Command;
@@ -41,6 +42,7 @@ pub fn answer(alloc: Global, command: Command<'_>, bytes: &[u8]) -> Result<Reply
     match command {
         Command::Reduce => reduce_file(alloc, bytes),
         Command::Ext => convert_file(alloc, bytes),
+        Command::Tangent => look_at_file(alloc, bytes),
         _ => unreachable!(),
     }
 }

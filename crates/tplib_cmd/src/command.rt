@@ -19,5 +19,5 @@ pub(crate) fn read_command(words: &[String]) -> Option<Command<'_>>
 fn is_built(command: Command<'_>) -> bool
     ensures { IsTrue result ↔ IsBuilt command.entry }
 {
-    matches!(command, Command::Reduce | Command::Ext)
+    matches!(command, Command::Reduce | Command::Ext | Command::Tangent)
 }

@@ -11,6 +11,7 @@ mod ext;
 mod reduce;
 mod report;
 mod status;
+mod tangent;
 mod top;
 
 pub use status::{Status, Stop};

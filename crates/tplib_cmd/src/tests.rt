@@ -31,7 +31,7 @@ fn ends_so(alloc: Global, case: &Case) -> Result<bool, Fail> {
 
 const THREE_POINTS: &[u8] = b"kind gens\nsemiring max\nvars x\npoint [0]\npoint [1]\npoint [2]\n";
 
-const CASES: [Case; 16] = [
+const CASES: [Case; 18] = [
     Case {
         words: "reduce",
         input: THREE_POINTS,
@@ -157,6 +157,24 @@ const CASES: [Case; 16] = [
         code: 3,
         out: b"",
         err: b"tplib: line 5: number out of range\n",
+    },
+    Case {
+        words: "tangent",
+        input: b"kind at\nsemiring max\nvars x y\nx <= y\ny <= x\nat [-oo, 0, 0]\n",
+        read_fails: 0,
+        write_fails: 0,
+        code: 0,
+        out: b"edge 1: y -> x\nedge 2: x -> y\ntypes: x y\nextreme: yes\n",
+        err: b"",
+    },
+    Case {
+        words: "tangent",
+        input: b"kind at\nsemiring max\nvars x y\nx <= y\ny <= x\nat [0, 1, 0]\n",
+        read_fails: 0,
+        write_fails: 0,
+        code: 1,
+        out: b"not a solution: inequality 1\n",
+        err: b"",
     },
     Case {
         words: "reduce now",

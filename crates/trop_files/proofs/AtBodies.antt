@@ -18,7 +18,6 @@ use Rattle.trop_files.proofs.Loops.{fails_with}
 use Rattle.trop_files.proofs.GeneratorBodies.{header}
 
 module _ (texts : List (List ℕ)) (line : ℕ) (ts : List Piece) where
-
   pub max_gives : (ring : RingName) (held : List (List ℕ)) (x : Place (Option ℤ)) (rest : List Piece) → ring ≡ names.Max → held ≡ texts → place_at (kind_of ring) max_ring max_numbering texts ts ≡ Ok (x, rest) → place_file_rest_at (header ring texts line) ts ≡ Ok (record { names = held; place = MaxPlace x }, rest)
   unfolding place_file_rest_at place_body_at read_then gives
   max_gives names.Max held x rest e same h = rw (h, same) refl
@@ -30,7 +29,6 @@ module _ (texts : List (List ℕ)) (line : ℕ) (ts : List Piece) where
   max_fails ring e is h = absurd cc
 
 module _ (texts : List (List ℕ)) (line : ℕ) (ts : List Piece) where
-
   pub min_gives : (ring : RingName) (held : List (List ℕ)) (x : Place (Option ℤ)) (rest : List Piece) → ring ≡ names.Min → held ≡ texts → place_at (kind_of ring) min_ring max_numbering texts ts ≡ Ok (x, rest) → place_file_rest_at (header ring texts line) ts ≡ Ok (record { names = held; place = MinPlace x }, rest)
   unfolding place_file_rest_at place_body_at read_then gives
   min_gives names.Min held x rest e same h = rw (h, same) refl
@@ -42,7 +40,6 @@ module _ (texts : List (List ℕ)) (line : ℕ) (ts : List Piece) where
   min_fails ring e is h = absurd cc
 
 module _ (texts : List (List ℕ)) (line : ℕ) (ts : List Piece) where
-
   pub bool_gives : (ring : RingName) (held : List (List ℕ)) (x : Place (Bool)) (rest : List Piece) → ring ≡ names.Bool → held ≡ texts → place_at (kind_of ring) truth_ring truth_numbering texts ts ≡ Ok (x, rest) → place_file_rest_at (header ring texts line) ts ≡ Ok (record { names = held; place = BoolPlace x }, rest)
   unfolding place_file_rest_at place_body_at read_then gives
   bool_gives names.Bool held x rest e same h = rw (h, same) refl

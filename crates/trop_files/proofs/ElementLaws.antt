@@ -29,7 +29,6 @@ pub said_reads : (text : List ℕ) (e : said text (sample text) ≡ Ok tt) → R
 said_reads text e = Reads-judged Syntax (said text) (sample text) tt e
 
 module _ {V : Type 0} (R : Semiring V) (N : Numbering V) (bound : ℕ) where
-
   behind_reads : (behind : Piece → Result V FaultKind) (p : Piece) (x : V) → behind p ≡ Ok x → (o : Option V) → Reads Anything (behind_at behind o) (Behind behind o)
   unfolding behind_at
   behind_reads behind p x e (Some y) = Reads-gives y

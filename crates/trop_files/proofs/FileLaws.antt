@@ -50,7 +50,6 @@ header_reads kind e =
 -- ---- generators
 
 module _ {V : Type 0} (kind : RingKind) (R : Semiring V) (N : Numbering V) (vars : ℕ) where
-
   generator_reads : (first : V) → Reads Anything (generator_at kind R N vars first) (IsGenerator kind R N vars first)
   unfolding generator_at
   generator_reads first = Reads-then (row_reads R N greatest_number kind vars) (λ row. Reads-then line_end_reads (λ u. Reads-gives (first ∷ row)))

@@ -24,7 +24,6 @@ abbrev pub header : RingName → List (List ℕ) → ℕ → Header
 header ring texts line = record { ring = kind_of ring; names = texts; vars_line = line }
 
 module _ (texts : List (List ℕ)) (line vars : ℕ) (ts : List Piece) where
-
   pub max_gives : (ring : RingName) (rows out : List (List (Option ℤ))) (rest : List Piece) → ring ≡ names.Max → vars ≡ length texts → out ≡ rows → generators_at (kind_of ring) max_ring max_numbering vars (ends Input) ts ≡ Ok (rows, rest) → generator_rest_at (header ring texts line) ts ≡ Ok (record { names = texts; vars_line = line; rows = MaxRows out }, rest)
   unfolding generator_rest_at generator_body_at read_then gives
   max_gives names.Max rows out rest e count same h = rw (sym count, h, same) refl
@@ -36,7 +35,6 @@ module _ (texts : List (List ℕ)) (line vars : ℕ) (ts : List Piece) where
   max_fails ring e is count h = absurd cc
 
 module _ (texts : List (List ℕ)) (line vars : ℕ) (ts : List Piece) where
-
   pub min_gives : (ring : RingName) (rows out : List (List (Option ℤ))) (rest : List Piece) → ring ≡ names.Min → vars ≡ length texts → out ≡ rows → generators_at (kind_of ring) min_ring max_numbering vars (ends Input) ts ≡ Ok (rows, rest) → generator_rest_at (header ring texts line) ts ≡ Ok (record { names = texts; vars_line = line; rows = MinRows out }, rest)
   unfolding generator_rest_at generator_body_at read_then gives
   min_gives names.Min rows out rest e count same h = rw (sym count, h, same) refl
@@ -48,7 +46,6 @@ module _ (texts : List (List ℕ)) (line vars : ℕ) (ts : List Piece) where
   min_fails ring e is count h = absurd cc
 
 module _ (texts : List (List ℕ)) (line vars : ℕ) (ts : List Piece) where
-
   pub bool_gives : (ring : RingName) (rows out : List (List (Bool))) (rest : List Piece) → ring ≡ names.Bool → vars ≡ length texts → out ≡ rows → generators_at (kind_of ring) truth_ring truth_numbering vars (ends Input) ts ≡ Ok (rows, rest) → generator_rest_at (header ring texts line) ts ≡ Ok (record { names = texts; vars_line = line; rows = BoolRows out }, rest)
   unfolding generator_rest_at generator_body_at read_then gives
   bool_gives names.Bool rows out rest e count same h = rw (sym count, h, same) refl

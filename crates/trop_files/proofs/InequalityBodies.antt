@@ -21,7 +21,6 @@ use Rattle.trop_files.proofs.Loops.{fails_with}
 use Rattle.trop_files.proofs.GeneratorBodies.{header}
 
 module _ (texts : List (List ℕ)) (line : ℕ) (ts : List Piece) where
-
   pub max_gives : (ring : RingName) (xs : List (Inequality (Option ℤ))) (rest : List Piece) → ring ≡ names.Max → inequalities_at (kind_of ring) max_ring max_numbering texts (ends Input) ts ≡ Ok (xs, rest) → inequality_file_rest_at (header ring texts line) ts ≡ Ok (record { names = texts; inequalities = MaxInequalities xs }, rest)
   unfolding inequality_file_rest_at inequality_body_at read_then gives
   max_gives names.Max xs rest e h = rw h refl
@@ -33,7 +32,6 @@ module _ (texts : List (List ℕ)) (line : ℕ) (ts : List Piece) where
   max_fails ring e is h = absurd cc
 
 module _ (texts : List (List ℕ)) (line : ℕ) (ts : List Piece) where
-
   pub min_gives : (ring : RingName) (xs : List (Inequality (Option ℤ))) (rest : List Piece) → ring ≡ names.Min → inequalities_at (kind_of ring) min_ring max_numbering texts (ends Input) ts ≡ Ok (xs, rest) → inequality_file_rest_at (header ring texts line) ts ≡ Ok (record { names = texts; inequalities = MinInequalities xs }, rest)
   unfolding inequality_file_rest_at inequality_body_at read_then gives
   min_gives names.Min xs rest e h = rw h refl
@@ -45,7 +43,6 @@ module _ (texts : List (List ℕ)) (line : ℕ) (ts : List Piece) where
   min_fails ring e is h = absurd cc
 
 module _ (texts : List (List ℕ)) (line : ℕ) (ts : List Piece) where
-
   pub bool_gives : (ring : RingName) (xs : List (Inequality (Bool))) (rest : List Piece) → ring ≡ names.Bool → inequalities_at (kind_of ring) truth_ring truth_numbering texts (ends Input) ts ≡ Ok (xs, rest) → inequality_file_rest_at (header ring texts line) ts ≡ Ok (record { names = texts; inequalities = BoolInequalities xs }, rest)
   unfolding inequality_file_rest_at inequality_body_at read_then gives
   bool_gives names.Bool xs rest e h = rw h refl

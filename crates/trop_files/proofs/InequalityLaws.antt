@@ -56,9 +56,9 @@ behind_term p more rest e =
 
 behind_left : (kind : RingKind) (p : Piece) (turned : Bool) (rest : List Piece) → order_mark kind p ≡ Ok turned → NoShift (p ∷ rest)
 behind_left MaxKind p turned rest e =
-    elim (two_words (says (codes "<=") p) (says (codes ">=") p) false true turned Syntax e) [ | inl h ↦ no_shift (codes "<=") p h refl | inr h ↦ no_shift (codes ">=") p h refl ]
+    elim (two_words (says (codes "<=") p) (says (codes ">=") p) false true turned Syntax e) [ inl h ↦ no_shift (codes "<=") p h refl | inr h ↦ no_shift (codes ">=") p h refl ]
 behind_left MinKind p turned rest e =
-    elim (two_words (says (codes ">=") p) (says (codes "<=") p) false true turned Syntax e) [ | inl h ↦ no_shift (codes ">=") p h refl | inr h ↦ no_shift (codes "<=") p h refl ]
+    elim (two_words (says (codes ">=") p) (says (codes "<=") p) false true turned Syntax e) [ inl h ↦ no_shift (codes ">=") p h refl | inr h ↦ no_shift (codes "<=") p h refl ]
 behind_left BoolKind p turned rest e = no_shift (codes "=>") p (one_word (says (codes "=>") p) false turned Syntax e) refl
 
 behind_right : (p : Piece) (u : Unit {0}) (rest : List Piece) → line_end p ≡ Ok u → NoShift (p ∷ rest)
@@ -84,7 +84,6 @@ no_bracket : (p : Piece) → says (codes ",") p ≡ true → says (codes ")") p 
 no_bracket p e = ap (λ text. bytes_eq text (codes ")")) ((bytes_eq-Decides (text_of p) (codes ",")).0 e)
 
 module _ {V : Type 0} (R : Semiring V) (N : Numbering V) (bound : ℕ) (names : List (List ℕ)) where
-
   nought_up : (up : Bool) → (x : V) × (shift N bound up nought ≡ Ok x)
   unfolding number
   nought_up true = let h : 0 ≤ bound = omega arith in (N.of (pos 0), (rw (le-leb 0 bound h) refl))

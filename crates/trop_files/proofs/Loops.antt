@@ -22,7 +22,6 @@ fails_repeated e step n k x ts whole below h so_far = fails_with e (step x ts) w
 -- ---- lists
 
 module _ {A C : Type 0} (start : List A → Piece → Result (Option C) FaultKind) (item : List A → C → List Piece → Reading Piece FaultKind A) (last : List A → Piece → Result (Unit {0}) FaultKind) where
-
   pub list_failed : (e : ReadErr) (n k : ℕ) (xs : List A) (ts : List Piece) (whole : Reading Piece FaultKind (List A)) → k < n → Fails e (list_step Syntax start item xs ts) → list_at Syntax start item last (n - k) xs ts ≡ whole → Fails e whole
   list_failed e n k xs ts whole below h so_far = fails_with e (list_step Syntax start item xs ts) whole h (λ miss m. sym so_far ∙ list-fails Syntax start item last n k xs ts miss below m)
 
@@ -32,7 +31,6 @@ module _ {A C : Type 0} (start : List A → Piece → Result (Option C) FaultKin
 -- ---- lists with separators
 
 module _ {A : Type 0} (item : List Piece → Reading Piece FaultKind A) (between : Piece → Result Bool FaultKind) (close : Piece → Result (Unit {0}) FaultKind) where
-
   pub separated_failed : (e : ReadErr) (n k : ℕ) (xs : List A) (ts : List Piece) (whole : Reading Piece FaultKind (List A)) → k < n → Fails e (separated_step Syntax item between xs ts) → separated_at Syntax item between close (n - k) xs ts ≡ whole → Fails e whole
   separated_failed e n k xs ts whole below h so_far = fails_with e (separated_step Syntax item between xs ts) whole h (λ miss m. sym so_far ∙ separated-fails Syntax item between close n k xs ts miss below m)
 

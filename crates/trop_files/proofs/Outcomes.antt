@@ -66,7 +66,6 @@ abbrev read_ok : {A : Type 0} → A × List Piece → Reading Piece FaultKind A
 read_ok p = Ok p
 
 module _ {A : Type 0} {read : List Piece → Reading Piece FaultKind A} {R : List Piece → A → Type 0} (h : Reads Anything read R) (ends : EndsWith IsInputEnd R) (bytes : List ℕ) (ts : List Piece) (start : ts ≡ pieces_of bytes) where
-
   same_value : (x y : A) (us vs : List Piece) → read_ok (x, us) ≡ read_ok (y, vs) → x ≡ y
   same_value x y us vs e = let p : (x, us) ≡ (y, vs) = cc in ap (λ (z : A × List Piece). z.0) p
 

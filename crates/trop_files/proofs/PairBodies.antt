@@ -17,7 +17,6 @@ use Rattle.trop_files.proofs.Loops.{fails_with}
 use Rattle.trop_files.proofs.GeneratorBodies.{header}
 
 module _ (texts : List (List ℕ)) (line : ℕ) (ts : List Piece) where
-
   pub max_gives : (ring : RingName) (held : List (List ℕ)) (x : Two (Option ℤ)) (rest : List Piece) → ring ≡ names.Max → held ≡ texts → two_at (kind_of ring) max_ring max_numbering (length texts) ts ≡ Ok (x, rest) → two_file_rest_at (header ring texts line) ts ≡ Ok (record { names = held; lists = MaxTwo x }, rest)
   unfolding two_file_rest_at two_body_at read_then gives
   max_gives names.Max held x rest e same h = rw (h, same) refl
@@ -29,7 +28,6 @@ module _ (texts : List (List ℕ)) (line : ℕ) (ts : List Piece) where
   max_fails ring e is h = absurd cc
 
 module _ (texts : List (List ℕ)) (line : ℕ) (ts : List Piece) where
-
   pub min_gives : (ring : RingName) (held : List (List ℕ)) (x : Two (Option ℤ)) (rest : List Piece) → ring ≡ names.Min → held ≡ texts → two_at (kind_of ring) min_ring max_numbering (length texts) ts ≡ Ok (x, rest) → two_file_rest_at (header ring texts line) ts ≡ Ok (record { names = held; lists = MinTwo x }, rest)
   unfolding two_file_rest_at two_body_at read_then gives
   min_gives names.Min held x rest e same h = rw (h, same) refl
@@ -41,7 +39,6 @@ module _ (texts : List (List ℕ)) (line : ℕ) (ts : List Piece) where
   min_fails ring e is h = absurd cc
 
 module _ (texts : List (List ℕ)) (line : ℕ) (ts : List Piece) where
-
   pub bool_gives : (ring : RingName) (held : List (List ℕ)) (x : Two (Bool)) (rest : List Piece) → ring ≡ names.Bool → held ≡ texts → two_at (kind_of ring) truth_ring truth_numbering (length texts) ts ≡ Ok (x, rest) → two_file_rest_at (header ring texts line) ts ≡ Ok (record { names = held; lists = BoolTwo x }, rest)
   unfolding two_file_rest_at two_body_at read_then gives
   bool_gives names.Bool held x rest e same h = rw (h, same) refl

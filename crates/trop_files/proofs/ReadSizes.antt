@@ -28,7 +28,10 @@ use Rattle.trop_text.specs.Name.{is_name}
 use Rattle.trop_text.specs.Names.{place_of}
 use Rattle.trop_theory.specs.Inequalities.{Inequality, inequality_size, system_size}
 use Rattle.trop_files.specs.Header.{Header}
-use Rattle.trop_files.specs.Sizes.{AreSmall, IsConvertible}
+use Rattle.trop_files.specs.Sizes.{AreSmall, IsConvertible, IsVisible}
+use Rattle.trop_files.specs.AtFiles.{Place, AnyPlace, PlaceFile, IsPlace, IsPlaceBody, SpellsPlace}
+use Rattle.trop_files.specs.ListEnds.{ends}
+use Rattle.trop_files.specs.declared.list_end.ListEnd.TheVariants.{At}
 
 -- ---- numbers
 
@@ -267,8 +270,7 @@ module _ {V : Type 0} {R : Semiring V} {N : Numbering V} {reversed : Bool} (laws
       All-one (TermSmall bound) t (term_rest_small kind bound line.value line.back t (term_start_small kind bound names line.first.token line.value line.first.is) line.second)
   separated_small kind bound names t us (u ∷ ts) (vs, ws, token, whole, line, between, more) =
       All-cons (TermSmall bound) t (u ∷ ts) (term_rest_small kind bound line.value line.back t (term_start_small kind bound names line.first.token line.value line.first.is) line.second)
-        (separated_small kind bound names u ws ts more)
-
+      (separated_small kind bound names u ws ts more)
 
   start_passed : (bound : ℕ) (r : Result (Start V) FaultKind) (first : Option (Start V)) → ((start : Start V) → r ≡ Ok start → StartSmall bound start) → passed (λ start. Some start) r ≡ Ok first → (start : Start V) → first ≡ Some start → StartSmall bound start
   start_passed bound (Ok s) first h e start f = let same : s ≡ start = cc in h start (ap Ok same)
@@ -299,7 +301,7 @@ module _ {V : Type 0} {R : Semiring V} {N : Numbering V} {reversed : Bool} (laws
   with_terms_small bound row [] h ts = h
   with_terms_small bound row (t ∷ terms) h ts =
       with_terms_small bound (with_term R row t) terms
-        (All-set (IsSmall bound) row t.coordinate _ (sum_small bound _ _ (entry_small bound row t.coordinate h) (All-head (TermSmall bound) t terms ts)) h) (All-tail (TermSmall bound) t terms ts)
+      (All-set (IsSmall bound) row t.coordinate _ (sum_small bound _ _ (entry_small bound row t.coordinate h) (All-head (TermSmall bound) t terms ts)) h) (All-tail (TermSmall bound) t terms ts)
 
   coefficients_small : (bound n : ℕ) (terms : List (Term V)) → All (TermSmall bound) terms → row_size R (coefficients R n terms) ≤ bound
   coefficients_small bound n terms ts = row_size-le bound _ (with_terms_small bound (bottom R n) terms (All-replicate (IsSmall bound) n R.zero (zero_small bound)) ts)
@@ -335,6 +337,16 @@ module _ {V : Type 0} {R : Semiring V} {N : Numbering V} {reversed : Bool} (laws
   pub system_small : (kind : RingKind) (names : List (List ℕ)) (ends : Piece → Bool) (us : List Piece) (system : List (Inequality V)) → AreInequalities kind R N names ends us system → system_size R system ≤ 2 ^ 49
   system_small kind names ends us system are = let small = inequalities_small kind names ends [] are.items system are.are in omega arith
 
+  pub place_row_small : (kind : RingKind) (names : List (List ℕ)) (us : List Piece) (p : Place V) → ((us : List Piece) (x : V) → IsElement kind R N greatest_number us x → IsSmall greatest_number x)
+      → IsPlace kind R N names us p → row_size R p.row ≤ 2 ^ 60
+  place_row_small kind names us p element e =
+      let row = e.second in
+      let small = row_size-le greatest_number row.value (row_small kind greatest_number (length names + 1) row.front row.value element row.first) in
+      subst (λ q. row_size R q.row ≤ 2 ^ 60) (sym row.second.second.second.is) (let here : row_size R row.value ≤ 2 ^ 60 = omega arith in here)
+
+  pub place_system_small : (kind : RingKind) (names : List (List ℕ)) (us : List Piece) (p : Place V) → IsPlace kind R N names us p → system_size R p.inequalities ≤ 2 ^ 49
+  place_system_small kind names us p e = subst (λ q. system_size R q.inequalities ≤ 2 ^ 49) (sym e.second.second.second.second.is) (system_small kind names (ends At) e.front e.value e.first)
+
 -- ---- files
 
 truth_size : (x : List Bool) → row_size truth_ring x ≤ 0
@@ -366,3 +378,15 @@ inequality_body_small h ends BoolKind us system b = subst IsConvertible (sym b.s
 -- the inequalities of a file can be converted
 pub inequalities_convertible : (us : List Piece) (file : InequalityFile) → SpellsInequalities us file → IsConvertible file.inequalities
 inequalities_convertible us file s = subst IsConvertible (sym (ap (λ f. f.inequalities) s.second.second.is)) (inequality_body_small s.value is_input_end s.value.ring s.second.front s.second.value s.second.first)
+
+place_body_small : (h : Header) (ring : RingKind) (us : List Piece) (place : AnyPlace) → IsPlaceBody h ring us place → IsVisible place
+place_body_small h MaxKind us place b =
+    subst IsVisible (sym b.second.is) (place_row_small max_laws max_numeric_laws MaxKind h.names b.front b.value (max_element_small max_laws max_numeric_laws greatest_number) b.first, place_system_small max_laws max_numeric_laws MaxKind h.names b.front b.value b.first)
+place_body_small h MinKind us place b =
+    subst IsVisible (sym b.second.is) (place_row_small min_laws min_numeric_laws MinKind h.names b.front b.value (min_element_small min_laws min_numeric_laws greatest_number) b.first, place_system_small min_laws min_numeric_laws MinKind h.names b.front b.value b.first)
+place_body_small h BoolKind us place b =
+    subst IsVisible (sym b.second.is) (let row = truth_size b.value.row in omega arith, let system = truth_system b.value.inequalities in omega arith)
+
+-- the hypergraph at a file's vector can be looked at
+pub place_visible : (us : List Piece) (file : PlaceFile) → SpellsPlace us file → IsVisible file.place
+place_visible us file s = subst IsVisible (sym (ap (λ f. f.place) s.second.second.is)) (place_body_small s.value s.value.ring s.second.front s.second.value s.second.first)

@@ -147,7 +147,10 @@ fn no_name<'a>(at: Pieces<'a>) -> Result<Pieces<'a>, ReadErr<'a>>
 {
     match at.next() {
         Some((Piece::LineEnd(_), rest)) => Ok(rest),
-        Some((piece, _)) if is_name(text_of(piece)) => Err(ReadErr::Wrong(FaultKind::TooManyVars, at)),
+        Some((piece, _)) if is_name(text_of(piece)) => Err(ReadErr::Wrong(
+            FaultKind::TooManyVars,
+            at,
+        )),
         _ => Err(ReadErr::Wrong(FaultKind::Syntax, at)),
     }
 }

@@ -102,7 +102,11 @@ fn begins_line(ring: RingName, piece: Piece<'_>) -> bool
 
 // What ends the list, where no line may follow.
 #[tactic(auto, unfolding(trop_grammar::specs::Reading::token_at, crate::specs::InequalityFiles::past_inequalities))]
-fn no_inequality<'a>(ring: RingName, at: Pieces<'a>, end: ListEnd) -> Result<Pieces<'a>, ReadErr<'a>>
+fn no_inequality<'a>(
+    ring: RingName,
+    at: Pieces<'a>,
+    end: ListEnd,
+) -> Result<Pieces<'a>, ReadErr<'a>>
     ensures { Gives (λ rest. (tt, pieces_left rest)) result (token_at Syntax (spec.no_inequality (kind_of ring) (ends end)) (pieces_left at.entry)) }
 {
     let Some((piece, rest)) = at.next() else {

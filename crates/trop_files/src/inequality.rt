@@ -28,11 +28,7 @@ fn add_term<S: Scalar>(row: &mut Row<S>, term: Term<S>)
 }
 
 // The coefficients of n coordinates; terms of one coordinate are added.
-fn coefficients<S: Scalar>(
-    alloc: Global,
-    terms: &[Term<S>],
-    n: u32,
-) -> Result<Row<S>, AllocError>
+fn coefficients<S: Scalar>(alloc: Global, terms: &[Term<S>], n: u32) -> Result<Row<S>, AllocError>
     requires { n ≤ 64 }
     ensures value { IfOk result (λ row. row ≡ spec.coefficients S.ring n terms.now) }
     ensures wide { IfOk result (λ row. length row ≡ n) }

@@ -36,27 +36,87 @@ fn generators_and_their_first_faults(rt: HostRuntime) -> Result<(), Fail> {
     let alloc = rt.alloc();
     let header = b"kind gens\nsemiring max\nvars x\n";
     assert!(rt; gens(alloc, header.as_slice()) == Ok(0));
-    assert!(rt; gens(alloc, b"kind gens\nsemiring max\nvars x\npoint [0]\n# two\n\tpoint [2]".as_slice()) == Ok(2));
-    assert!(rt; gens(alloc, b"kind gens\nsemiring max\nvars x\nray [-oo]\nray [1099511627776]\n".as_slice()) == Ok(1));
-    assert!(rt; gens(alloc, b"kind gens\nsemiring bool\nvars\npoint []\n".as_slice()) == Ok(1));
+    assert!(rt;
+        gens(
+            alloc,
+            b"kind gens\nsemiring max\nvars x\npoint [0]\n# two\n\tpoint [2]".as_slice()
+        ) == Ok(2)
+    );
+    assert!(rt;
+        gens(
+            alloc,
+            b"kind gens\nsemiring max\nvars x\nray [-oo]\nray [1099511627776]\n".as_slice()
+        ) == Ok(1)
+    );
+    assert!(rt;
+        gens(
+            alloc,
+            b"kind gens\nsemiring bool\nvars\npoint []\n".as_slice()
+        ) == Ok(1)
+    );
     assert!(rt; gens(alloc, b"".as_slice()) == syntax(1, 1));
     assert!(rt; gens(alloc, b"kind gens\n".as_slice()) == syntax(2, 1));
-    assert!(rt; gens(alloc, b"kind at\n".as_slice()) == Err(TextErr::Fault(Fault::WrongKind { line: 1 })));
-    assert!(rt; gens(alloc, b"kind gens\nsemiring max\nvars x y x\n".as_slice()) == Err(TextErr::Fault(Fault::DuplicateName { line: 3 })));
-    assert!(rt; gens(alloc, b"kind gens\nsemiring max\nvars x\npoint [1, 2]\n".as_slice()) == syntax(4, 9));
-    assert!(rt; gens(alloc, b"kind gens\nsemiring max\nvars x\npoint [1 # no end\n".as_slice()) == syntax(4, 18));
-    assert!(rt; gens(alloc, b"kind gens\nsemiring min\nvars x\npoint [- oo]\n".as_slice()) == syntax(4, 10));
-    assert!(rt; gens(alloc, b"kind gens\nsemiring min\nvars x\npoint [1099511627777]\n".as_slice()) == Err(TextErr::Fault(Fault::NumberRange { line: 4 })));
+    assert!(rt;
+        gens(alloc, b"kind at\n".as_slice()) == Err(TextErr::Fault(Fault::WrongKind { line: 1 }))
+    );
+    assert!(rt;
+        gens(alloc, b"kind gens\nsemiring max\nvars x y x\n".as_slice())
+            == Err(TextErr::Fault(Fault::DuplicateName { line: 3 }))
+    );
+    assert!(rt;
+        gens(
+            alloc,
+            b"kind gens\nsemiring max\nvars x\npoint [1, 2]\n".as_slice()
+        ) == syntax(4, 9)
+    );
+    assert!(rt;
+        gens(
+            alloc,
+            b"kind gens\nsemiring max\nvars x\npoint [1 # no end\n".as_slice()
+        ) == syntax(4, 18)
+    );
+    assert!(rt;
+        gens(
+            alloc,
+            b"kind gens\nsemiring min\nvars x\npoint [- oo]\n".as_slice()
+        ) == syntax(4, 10)
+    );
+    assert!(rt;
+        gens(
+            alloc,
+            b"kind gens\nsemiring min\nvars x\npoint [1099511627777]\n".as_slice()
+        ) == Err(TextErr::Fault(Fault::NumberRange { line: 4 }))
+    );
     Ok(())
 }
 
 #[test]
 fn inequalities_and_their_first_faults(rt: HostRuntime) -> Result<(), Fail> {
     let alloc = rt.alloc();
-    assert!(rt; ineqs(alloc, b"kind ineqs\nsemiring max\nvars x y\nmax(0, x + 2, x) <= y - 1\n- 3 >= x\n".as_slice()) == Ok(2));
-    assert!(rt; ineqs(alloc, b"kind ineqs\nsemiring max\nvars x\n0 <= z\n".as_slice()) == Err(TextErr::Fault(Fault::UnknownName { line: 4 })));
-    assert!(rt; ineqs(alloc, b"kind ineqs\nsemiring max\nvars x\n3 + x <= 0\n".as_slice()) == syntax(4, 3));
-    assert!(rt; ineqs(alloc, b"kind ineqs\nsemiring bool\nvars x\nor(x, true) => false\nx <= x\n".as_slice()) == syntax(5, 3));
+    assert!(rt;
+        ineqs(
+            alloc,
+            b"kind ineqs\nsemiring max\nvars x y\nmax(0, x + 2, x) <= y - 1\n- 3 >= x\n".as_slice()
+        ) == Ok(2)
+    );
+    assert!(rt;
+        ineqs(
+            alloc,
+            b"kind ineqs\nsemiring max\nvars x\n0 <= z\n".as_slice()
+        ) == Err(TextErr::Fault(Fault::UnknownName { line: 4 }))
+    );
+    assert!(rt;
+        ineqs(
+            alloc,
+            b"kind ineqs\nsemiring max\nvars x\n3 + x <= 0\n".as_slice()
+        ) == syntax(4, 3)
+    );
+    assert!(rt;
+        ineqs(
+            alloc,
+            b"kind ineqs\nsemiring bool\nvars x\nor(x, true) => false\nx <= x\n".as_slice()
+        ) == syntax(5, 3)
+    );
     Ok(())
 }
 
@@ -77,7 +137,9 @@ fn sides_that_are_turned_and_terms_that_are_added(rt: HostRuntime) -> Result<(),
     let alloc = rt.alloc();
     let text = b"kind ineqs\nsemiring min\nvars x y\nx <= min(y, y + 1)\n";
     match printed(alloc, text.as_slice()) {
-        Ok(text) => assert!(rt; text.as_slice() == b"kind ineqs\nsemiring min\nvars x y\ny >= x\n".as_slice()),
+        Ok(text) => assert!(rt;
+            text.as_slice() == b"kind ineqs\nsemiring min\nvars x y\ny >= x\n".as_slice()
+        ),
         Err(_) => assert!(rt; false),
     }
     Ok(())
