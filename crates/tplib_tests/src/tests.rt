@@ -7,4 +7,5 @@ mod gens_faults;
 mod groups;
 mod ineqs_answers;
 mod ineqs_faults;
+mod pairs;
 mod plain;
