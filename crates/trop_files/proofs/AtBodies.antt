@@ -1,19 +1,18 @@
 -- The lines behind the header of a file of a vector with inequalities, in each of the semirings.
-use Rattle.std.proofs.Common.{◌≡◌, ℕ, ℤ, Option, List, Result, Ok, Err, refl, sym, ap, ◌∙◌}
+use Rattle.std.proofs.Common.{◌≡◌, ℕ, ℤ, Option, List, Ok, refl}
 use Rattle.std.specs.Prelude.{Bool}
 use Rattle.trop_scalar.specs.MaxPlus.{max_ring, max_numbering}
 use Rattle.trop_scalar.specs.MinPlus.{min_ring}
 use Rattle.trop_scalar.specs.Truth.{truth_ring, truth_numbering}
-use Rattle.trop_grammar.specs.Reading.{Reading, Miss, read_then, gives}
+use Rattle.trop_grammar.specs.Reading.{read_then, gives}
 use Rattle.trop_text.specs.Pieces.{Piece}
-use Rattle.trop_text.specs.declared.fault.FaultKind.{FaultKind}
 use Rattle.trop_files.specs.declared.ring_name.RingName.{RingName}
 use Rattle.trop_files.specs.declared.ring_name.RingName.TheVariants as names
 use Rattle.trop_files.specs.declared.read_err.ReadErr.{ReadErr}
 use Rattle.trop_files.specs.RingNames.{kind_of}
 use Rattle.trop_files.specs.Gives.{Fails}
 use Rattle.trop_files.specs.Spelling.{MaxKind, MinKind, BoolKind}
-use Rattle.trop_files.specs.AtFiles.{Place, place_at, place_body_at, place_file_rest_at, PlaceFile, MaxPlace, MinPlace, BoolPlace}
+use Rattle.trop_files.specs.AtFiles.{Place, place_at, place_body_at, place_file_rest_at, MaxPlace, MinPlace, BoolPlace}
 use Rattle.trop_files.proofs.Loops.{fails_with}
 use Rattle.trop_files.proofs.GeneratorBodies.{header}
 

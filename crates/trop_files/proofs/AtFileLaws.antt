@@ -1,11 +1,11 @@
 -- Files of a vector with inequalities are read right.
-use Rattle.std.proofs.Common.{◌≡◌, ◌+◌, ℕ, Bool, true, false, List, codes, length, Result, Ok, Err, refl}
+use Rattle.std.proofs.Common.{◌≡◌, ◌+◌, ℕ, List, codes, length, Ok, refl}
 use Rattle.trop_theory.specs.Semiring.{Semiring}
 use Rattle.trop_theory.specs.Numbers.{Numbering}
 use Rattle.trop_scalar.specs.MaxPlus.{max_ring, max_numbering}
 use Rattle.trop_scalar.specs.MinPlus.{min_ring}
 use Rattle.trop_scalar.specs.Truth.{truth_ring, truth_numbering}
-use Rattle.trop_grammar.specs.Reading.{Reading, read_then, gives, token_at}
+use Rattle.trop_grammar.specs.Reading.{token_at}
 use Rattle.trop_grammar.specs.Grammar.{One, Empty, Then}
 use Rattle.trop_grammar.specs.Reads.{Reads, Anything}
 use Rattle.trop_grammar.specs.Lists.{Passes}
@@ -13,12 +13,11 @@ use Rattle.trop_grammar.proofs.Ends.{EndsWith, EndsWith-one, EndsWith-then, Ends
 use Rattle.trop_grammar.proofs.Laws.{Reads-then, Reads-gives}
 use Rattle.trop_grammar.proofs.ListLaws.{Reads-judged}
 use Rattle.trop_text.specs.Pieces.{Piece, Token, LineEnd, InputEnd}
-use Rattle.trop_text.specs.declared.fault.FaultKind.{FaultKind}
 use Rattle.trop_text.specs.declared.fault.FaultKind.TheVariants.{Syntax}
 use Rattle.trop_files.specs.declared.list_end.ListEnd.TheVariants.{At}
 use Rattle.trop_files.specs.ListEnds.{ends}
 use Rattle.trop_files.specs.Spelling.{RingKind, MaxKind, MinKind, BoolKind}
-use Rattle.trop_files.specs.Words.{input_end, is_input_end}
+use Rattle.trop_files.specs.Words.{input_end}
 use Rattle.trop_files.specs.Header.{Header}
 use Rattle.trop_files.specs.Generators.{greatest_number}
 use Rattle.trop_files.specs.AtFiles.{MaxPlace, MinPlace, BoolPlace, IsPlace, IsPlaceBody, place_file, SpellsPlace, place_at, place_body_at, place_file_rest_at, place_file_at}

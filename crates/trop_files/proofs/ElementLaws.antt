@@ -1,15 +1,14 @@
 -- Elements and rows are read right.
-use Rattle.std.proofs.Common.{◌≡◌, ◌≤◌, ℕ, zero, suc, List, [], ◌∷◌, ◌++◌, codes, Option, Some, None, Result, Ok, Err, refl, nat_le, pos, neg_ℤ, ap, arith}
+use Rattle.std.proofs.Common.{◌≡◌, ◌≤◌, ℕ, zero, suc, List, [], ◌∷◌, ◌++◌, codes, Option, Some, None, Result, Ok, refl, pos, neg_ℤ, arith}
 use Rattle.std.proofs.lemmas.Bool.{le-leb}
 use Rattle.trop_theory.specs.Semiring.{Semiring}
 use Rattle.trop_theory.specs.Numbers.{Numbering}
-use Rattle.trop_grammar.specs.Reading.{Reading, read_then, gives, token_at, repeat_at}
-use Rattle.trop_grammar.specs.Grammar.{One, Empty, Then, Repeated}
+use Rattle.trop_grammar.specs.Reading.{token_at}
+use Rattle.trop_grammar.specs.Grammar.{One}
 use Rattle.trop_grammar.specs.Reads.{Reads, Anything}
 use Rattle.trop_grammar.specs.Lists.{Passes}
 use Rattle.trop_grammar.proofs.Laws.{Reads-then, Reads-gives, Reads-repeat}
 use Rattle.trop_grammar.proofs.ListLaws.{Reads-judged}
-use Rattle.trop_text.specs.Tokens.{Tok}
 use Rattle.trop_text.specs.Pieces.{Piece, Token}
 use Rattle.trop_text.specs.declared.token.TokenKind.TheVariants.{Word, Digits}
 use Rattle.trop_text.specs.declared.fault.FaultKind.{FaultKind}

@@ -1,25 +1,24 @@
 -- Headers and files are read right.
-use Rattle.std.proofs.Common.{◌≡◌, ℕ, List, [], ◌∷◌, ◌++◌, codes, Bool, true, false, Option, Some, None, Result, Ok, Err, refl, sym, ap, ◌∙◌, length, cond, ◌||◌}
+use Rattle.std.proofs.Common.{◌≡◌, ℕ, List, ◌∷◌, codes, Bool, true, false, None, Result, Ok, Err, refl, length}
 use Rattle.trop_theory.specs.Semiring.{Semiring}
 use Rattle.trop_theory.specs.Numbers.{Numbering}
 use Rattle.trop_scalar.specs.MaxPlus.{max_ring, max_numbering}
 use Rattle.trop_scalar.specs.MinPlus.{min_ring}
 use Rattle.trop_scalar.specs.Truth.{truth_ring, truth_numbering}
-use Rattle.trop_grammar.specs.Reading.{Reading, read_then, gives, token_at}
+use Rattle.trop_grammar.specs.Reading.{gives, token_at}
 use Rattle.trop_grammar.specs.Grammar.{One, Empty, Then}
 use Rattle.trop_grammar.specs.Reads.{Reads, Anything}
-use Rattle.trop_grammar.specs.Lists.{Passes, next_or_end, list_at}
+use Rattle.trop_grammar.specs.Lists.{Passes, next_or_end}
 use Rattle.trop_grammar.proofs.Ends.{EndsWith, EndsWith-then, EndsWith-gives, EndsWith-listed}
 use Rattle.trop_grammar.proofs.Laws.{Reads-then, Reads-gives}
 use Rattle.trop_grammar.proofs.ListLaws.{Reads-judged, Reads-list, AreParts, parts_of}
-use Rattle.trop_text.specs.Name.{is_name}
-use Rattle.trop_text.specs.Pieces.{Piece, Token, LineEnd, InputEnd}
+use Rattle.trop_text.specs.Pieces.{Piece, LineEnd, InputEnd}
 use Rattle.trop_text.specs.declared.fault.FaultKind.{FaultKind}
-use Rattle.trop_text.specs.declared.fault.FaultKind.TheVariants.{Syntax, DuplicateName, TooManyVars, TooManyLines, WrongKind}
+use Rattle.trop_text.specs.declared.fault.FaultKind.TheVariants.{Syntax}
 use Rattle.trop_files.specs.Spelling.{RingKind, MaxKind, MinKind, BoolKind}
-use Rattle.trop_files.specs.Words.{says, said, line_end, is_input_end, text_of}
+use Rattle.trop_files.specs.Words.{line_end, is_input_end}
 use Rattle.trop_files.specs.Header.{Header, IsKindLine, IsSemiringLine, IsHeader, kind_line_at, semiring_line_at, kind_word, semiring_word, vars_word, is_line_end, new_name, past_names, next_name, no_name, most_names, IsName, AreNames, name_at, names_at, header_at}
-use Rattle.trop_files.specs.Generators.{generator_word, past_generators, next_generator, no_generator, IsGenerator, AreGeneratorLines, AreGenerators, generator_at, generator_lines_at, generators_at, greatest_number, most_generators, kept, AnyRows, MaxRows, MinRows, BoolRows, IsGeneratorBody, SpellsGenerators, generator_body_at, generator_file, generator_rest_at, generator_file_at}
+use Rattle.trop_files.specs.Generators.{generator_word, past_generators, next_generator, no_generator, IsGenerator, AreGeneratorLines, AreGenerators, generator_at, generator_lines_at, generators_at, greatest_number, most_generators, kept, MaxRows, MinRows, BoolRows, IsGeneratorBody, SpellsGenerators, generator_body_at, generator_file, generator_rest_at, generator_file_at}
 use Rattle.trop_files.proofs.ElementLaws.{sample, said_reads, row_reads}
 
 names_parts : AreParts next_name name_at (λ names. no_name) IsName

@@ -1,12 +1,11 @@
 -- The lines behind the header, in each of the semirings.
-use Rattle.std.proofs.Common.{◌≡◌, ℕ, ℤ, Option, List, Result, Ok, Err, refl, sym, ap, ◌∙◌, length, subst}
+use Rattle.std.proofs.Common.{◌≡◌, ℕ, ℤ, Option, List, Ok, refl, sym, length}
 use Rattle.std.specs.Prelude.{Bool}
 use Rattle.trop_scalar.specs.MaxPlus.{max_ring, max_numbering}
 use Rattle.trop_scalar.specs.MinPlus.{min_ring}
 use Rattle.trop_scalar.specs.Truth.{truth_ring, truth_numbering}
-use Rattle.trop_grammar.specs.Reading.{Reading, Miss, read_then, gives}
+use Rattle.trop_grammar.specs.Reading.{read_then, gives}
 use Rattle.trop_text.specs.Pieces.{Piece}
-use Rattle.trop_text.specs.declared.fault.FaultKind.{FaultKind}
 use Rattle.trop_files.specs.declared.ring_name.RingName.{RingName}
 use Rattle.trop_files.specs.declared.ring_name.RingName.TheVariants as names
 use Rattle.trop_files.specs.declared.list_end.ListEnd.TheVariants.{Input}
@@ -16,7 +15,7 @@ use Rattle.trop_files.specs.ListEnds.{ends}
 use Rattle.trop_files.specs.Gives.{Fails}
 use Rattle.trop_files.specs.Spelling.{MaxKind, MinKind, BoolKind}
 use Rattle.trop_files.specs.Header.{Header}
-use Rattle.trop_files.specs.Generators.{generators_at, generator_body_at, generator_rest_at, GeneratorFile, MaxRows, MinRows, BoolRows}
+use Rattle.trop_files.specs.Generators.{generators_at, generator_body_at, generator_rest_at, MaxRows, MinRows, BoolRows}
 use Rattle.trop_files.proofs.Loops.{fails_with}
 
 -- the header of this semiring

@@ -1,12 +1,10 @@
 -- Files of inequalities are read right.
-use Rattle.std.proofs.Common.{◌≡◌, ℕ, Bool, true, false, List, codes, length, Option, Some, None, Result, Ok, Err, refl}
+use Rattle.std.proofs.Common.{◌≡◌, ℕ, Bool, true, List, codes, refl}
 use Rattle.trop_theory.specs.Semiring.{Semiring}
 use Rattle.trop_theory.specs.Numbers.{Numbering}
-use Rattle.trop_theory.specs.Inequalities.{Inequality}
 use Rattle.trop_scalar.specs.MaxPlus.{max_ring, max_numbering}
 use Rattle.trop_scalar.specs.MinPlus.{min_ring}
 use Rattle.trop_scalar.specs.Truth.{truth_ring, truth_numbering}
-use Rattle.trop_grammar.specs.Reading.{Reading, read_then, gives}
 use Rattle.trop_grammar.specs.Grammar.{Empty, Then}
 use Rattle.trop_grammar.specs.Reads.{Reads, Anything}
 use Rattle.trop_grammar.proofs.Ends.{EndsWith, EndsWith-then, EndsWith-gives, EndsWith-listed}

@@ -5,22 +5,18 @@ use Rattle.std.proofs.lemmas.Bool.{le-leb}
 use Rattle.std.proofs.lemmas.Slice.Eq.{bytes_eq-Decides}
 use Rattle.trop_theory.specs.Semiring.{Semiring}
 use Rattle.trop_theory.specs.Numbers.{Numbering}
-use Rattle.trop_theory.specs.Inequalities.{Inequality}
-use Rattle.trop_grammar.specs.Reading.{Reading, read_then, gives, token_at, option_at}
-use Rattle.trop_grammar.specs.Grammar.{One, Empty, Then, Optional}
 use Rattle.trop_grammar.specs.Reads.{Reads, Anything, Unannounced}
-use Rattle.trop_grammar.specs.Lists.{Passes, Separated, separated_at}
+use Rattle.trop_grammar.specs.Lists.{Passes, Separated}
 use Rattle.trop_grammar.proofs.Laws.{Reads-bind, Reads-then, Reads-gives, Reads-weaker, Reads-option}
 use Rattle.trop_grammar.proofs.ListLaws.{Reads-judged}
 use Rattle.trop_grammar.proofs.SeparatedLaws.{Reads-separated, AreSeparators}
 use Rattle.trop_text.specs.Pieces.{Piece, Token, LineEnd, InputEnd}
 use Rattle.trop_text.specs.declared.fault.FaultKind.{FaultKind}
 use Rattle.trop_text.specs.declared.fault.FaultKind.TheVariants.{Syntax}
-use Rattle.trop_files.specs.Spelling.{RingKind, MaxKind, MinKind, BoolKind, sum_word}
-use Rattle.trop_files.specs.declared.terms.Term.{Term}
+use Rattle.trop_files.specs.Spelling.{RingKind, MaxKind, MinKind, BoolKind}
 use Rattle.trop_files.specs.declared.terms.Start.{Start}
 use Rattle.trop_files.specs.declared.terms.Start.TheVariants.{Constant, Minus, Variable}
-use Rattle.trop_files.specs.Words.{says, said, line_end, text_of, number, passed}
+use Rattle.trop_files.specs.Words.{says, said, line_end, text_of, number}
 use Rattle.trop_files.specs.Elements.{max_behind, min_behind}
 use Rattle.trop_files.specs.Inequalities.{term_start, max_term, shift_sign, shift, term, IsShifted, IsNumericRest, truth_term, IsTermRest, IsTerm, side_start, between_terms, most_terms, IsSideRest, IsSide, order_mark, inequality, IsInequalityRest, IsInequality, shifted_at, numeric_rest_at, term_rest_at, term_at, terms_at, side_rest_at, side_at, inequality_rest_at, inequality_at}
 use Rattle.trop_files.proofs.ElementLaws.{sample, nought, said_reads, nought_fits}

@@ -1,7 +1,7 @@
 -- From what a reader gives to what it promises of a whole file.
-use Rattle.std.proofs.Common.{◌≡◌, ℕ, zero, suc, Bool, true, false, cond, List, [], ◌∷◌, ◌++◌, Result, Ok, Err, refl, sym, ap, subst, ◌∙◌, ◌||◌, ◌==◌}
+use Rattle.std.proofs.Common.{◌≡◌, ℕ, zero, suc, Bool, true, false, cond, List, [], ◌∷◌, ◌++◌, Ok, Err, refl, sym, ap, subst, ◌∙◌, ◌||◌, ◌==◌}
 use Rattle.trop_grammar.specs.Reading.{Reading, Miss}
-use Rattle.trop_grammar.specs.Reads.{Reads, Anything, IsFirstFault}
+use Rattle.trop_grammar.specs.Reads.{Reads, Anything}
 use Rattle.trop_grammar.proofs.Ends.{EndsWith}
 use Rattle.trop_grammar.proofs.Whole.{IsLastAlone, found, only, first_fault}
 use Rattle.trop_text.specs.Tokens.{Tok, tokens_of}
@@ -16,7 +16,7 @@ use Rattle.trop_text.specs.declared.fault.TextErr.TheVariants as errors
 use Rattle.trop_files.specs.declared.read_err.ReadErr.{ReadErr}
 use Rattle.trop_files.specs.declared.read_err.ReadErr.TheVariants as reads
 use Rattle.trop_files.specs.Words.{is_input_end}
-use Rattle.trop_files.specs.Gives.{Gives, Fails, IsToldAs}
+use Rattle.trop_files.specs.Gives.{Fails, IsToldAs}
 use Rattle.trop_files.specs.Outcome.{Answers, IsFault, IsRefusal}
 use Rattle.trop_files.proofs.FileLaws.{IsInputEnd}
 

@@ -1,5 +1,5 @@
 -- The lines behind the header of a file of two lists of generators, in each of the semirings.
-use Rattle.std.proofs.Common.{◌≡◌, ℕ, ℤ, Option, List, Ok, Err, refl, length}
+use Rattle.std.proofs.Common.{◌≡◌, ℕ, ℤ, Option, List, Ok, refl, length}
 use Rattle.std.specs.Prelude.{Bool}
 use Rattle.trop_scalar.specs.MaxPlus.{max_ring, max_numbering}
 use Rattle.trop_scalar.specs.MinPlus.{min_ring}
@@ -12,7 +12,7 @@ use Rattle.trop_files.specs.declared.read_err.ReadErr.{ReadErr}
 use Rattle.trop_files.specs.RingNames.{kind_of}
 use Rattle.trop_files.specs.Gives.{Fails}
 use Rattle.trop_files.specs.Spelling.{MaxKind, MinKind, BoolKind}
-use Rattle.trop_files.specs.PairFiles.{Two, two_at, two_body_at, two_file_rest_at, TwoFile, MaxTwo, MinTwo, BoolTwo}
+use Rattle.trop_files.specs.PairFiles.{Two, two_at, two_body_at, two_file_rest_at, MaxTwo, MinTwo, BoolTwo}
 use Rattle.trop_files.proofs.Loops.{fails_with}
 use Rattle.trop_files.proofs.GeneratorBodies.{header}
 

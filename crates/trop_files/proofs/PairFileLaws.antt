@@ -1,16 +1,15 @@
 -- Files of two lists of generators are read right.
-use Rattle.std.proofs.Common.{◌≡◌, ℕ, List, codes, length, refl}
+use Rattle.std.proofs.Common.{ℕ, codes, length, refl}
 use Rattle.trop_theory.specs.Semiring.{Semiring}
 use Rattle.trop_theory.specs.Numbers.{Numbering}
 use Rattle.trop_scalar.specs.MaxPlus.{max_ring, max_numbering}
 use Rattle.trop_scalar.specs.MinPlus.{min_ring}
 use Rattle.trop_scalar.specs.Truth.{truth_ring, truth_numbering}
-use Rattle.trop_grammar.specs.Reading.{Reading, read_then, gives}
 use Rattle.trop_grammar.specs.Grammar.{Empty, Then}
 use Rattle.trop_grammar.specs.Reads.{Reads, Anything}
 use Rattle.trop_grammar.proofs.Ends.{EndsWith, EndsWith-then, EndsWith-gives}
 use Rattle.trop_grammar.proofs.Laws.{Reads-then, Reads-gives}
-use Rattle.trop_text.specs.Pieces.{Piece, InputEnd}
+use Rattle.trop_text.specs.Pieces.{InputEnd}
 use Rattle.trop_files.specs.declared.list_end.ListEnd.TheVariants.{And, Input}
 use Rattle.trop_files.specs.ListEnds.{ends}
 use Rattle.trop_files.specs.Spelling.{RingKind, MaxKind, MinKind, BoolKind}

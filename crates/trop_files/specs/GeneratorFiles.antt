@@ -1,9 +1,8 @@
 -- Files of generators that the program holds.
-use Rattle.std.specs.Prelude.{◌≡◌, ◌+◌, ℕ, ℤ, Bool, Option, List, length}
-use Rattle.trop_files.specs.declared.generators.GenFile.{GenFile}
+use Rattle.std.specs.Prelude.{◌≡◌, ◌+◌, length}
 use Rattle.trop_files.specs.declared.generators.AnyGens.{AnyGens}
 use Rattle.trop_files.specs.declared.generators.AnyGens.TheVariants as any
-use Rattle.trop_files.specs.Generators.{GeneratorFile, AnyRows, MaxRows, MinRows, BoolRows}
+use Rattle.trop_files.specs.Generators.{GeneratorFile, MaxRows, MinRows, BoolRows}
 
 abbrev pub generator_file_of : AnyGens → GeneratorFile
 generator_file_of (any.Max f) = record { names = f.names; vars_line = f.vars_line; rows = MaxRows f.gens.rows }

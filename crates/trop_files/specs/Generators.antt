@@ -1,5 +1,5 @@
 -- The lines of generators, and the files of them.
-use Rattle.std.specs.Prelude.{◌≡◌, ℕ, ℤ, Bool, true, false, ◌||◌, List, [], ◌∷◌, ◌++◌, length, filter, codes, Option, Some, None, Result, Ok, Err, if◌then◌else◌}
+use Rattle.std.specs.Prelude.{ℕ, ℤ, Bool, ◌||◌, List, [], ◌∷◌, length, filter, codes, Option, Result, Ok, Err, if◌then◌else◌}
 use Rattle.std.specs.Option.{is_some}
 use Rattle.std.specs.List.{list_any}
 use Rattle.trop_theory.specs.Semiring.{Semiring}
@@ -14,7 +14,7 @@ use Rattle.trop_text.specs.Pieces.{Piece}
 use Rattle.trop_text.specs.declared.fault.FaultKind.{FaultKind}
 use Rattle.trop_text.specs.declared.fault.FaultKind.TheVariants.{Syntax, TooManyLines}
 use Rattle.trop_files.specs.Spelling.{RingKind, MaxKind, MinKind, BoolKind}
-use Rattle.trop_files.specs.Words.{says, said, line_end, is_input_end}
+use Rattle.trop_files.specs.Words.{says, line_end, is_input_end}
 use Rattle.trop_files.specs.Elements.{IsRow, row_at}
 use Rattle.trop_files.specs.Header.{Header, IsHeader, header_at}
 

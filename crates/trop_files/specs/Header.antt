@@ -1,5 +1,5 @@
 -- The header: the first three lines that have tokens.
-use Rattle.std.specs.Prelude.{◌≡◌, ℕ, Bool, true, false, List, [], ◌∷◌, ◌++◌, codes, Option, Some, None, Result, Ok, Err, if◌then◌else◌}
+use Rattle.std.specs.Prelude.{ℕ, Bool, true, false, List, [], ◌∷◌, codes, Option, Some, None, Result, Ok, Err, if◌then◌else◌}
 use Rattle.std.specs.List.{list_any}
 use Rattle.trop_grammar.specs.Reading.{Reading, ◌>>=◌, gives, token_at}
 use Rattle.trop_grammar.specs.Grammar.{One, Empty, Then}

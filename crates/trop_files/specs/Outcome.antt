@@ -1,6 +1,6 @@
 -- What a reader of a whole file answers.
 use Rattle.std.specs.Prelude.{◌≡◌, ℕ, List, Result, Ok, Err}
-use Rattle.trop_grammar.specs.Reading.{Reading, Miss}
+use Rattle.trop_grammar.specs.Reading.{Reading}
 use Rattle.trop_grammar.specs.Reads.{IsFirstFault}
 use Rattle.trop_text.specs.Pieces.{Piece, pieces_of}
 use Rattle.trop_text.specs.Places.{fault_before}

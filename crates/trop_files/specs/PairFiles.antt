@@ -1,5 +1,5 @@
 -- Files of two lists of generators.
-use Rattle.std.specs.Prelude.{◌≡◌, ℕ, ℤ, Bool, List, length, codes, Option}
+use Rattle.std.specs.Prelude.{ℕ, ℤ, Bool, List, length, codes, Option}
 use Rattle.trop_theory.specs.Semiring.{Semiring}
 use Rattle.trop_theory.specs.Numbers.{Numbering}
 use Rattle.trop_scalar.specs.MaxPlus.{max_ring, max_numbering}

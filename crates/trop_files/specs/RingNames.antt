@@ -1,5 +1,4 @@
 -- The semirings that a program holds by name.
-use Rattle.std.specs.Prelude.{◌≡◌}
 use Rattle.trop_files.specs.Spelling.{RingKind, MaxKind, MinKind, BoolKind}
 use Rattle.trop_files.specs.declared.ring_name.RingName.{RingName}
 use Rattle.trop_files.specs.declared.ring_name.RingName.TheVariants.{Max, Min, Bool}

@@ -1,5 +1,5 @@
 -- What a single piece of a file may be: judges, which let a piece pass with a value or say what is wrong with it.
-use Rattle.std.specs.Prelude.{ℕ, Bool, true, false, ◌&&◌, List, [], ◌∷◌, Option, Some, None, Result, Ok, Err, nat_le, if◌then◌else◌}
+use Rattle.std.specs.Prelude.{ℕ, Bool, true, false, List, [], Result, Ok, Err, nat_le, if◌then◌else◌}
 use Rattle.std.specs.Str.{bytes_eq}
 use Rattle.trop_text.specs.Digits.{number_of}
 use Rattle.trop_text.specs.Pieces.{Piece, Token, LineEnd, InputEnd}

@@ -1,4 +1,4 @@
-use Rattle.std.proofs.Common.{◌≡◌, ◌+◌, ◌∙◌, ap, length, arith, List, ◌++◌, length-append}
+use Rattle.std.proofs.Common.{◌≡◌, ◌+◌, length, arith}
 use Rattle.trop_files.proofs.Kept.{filter-last, all-front}
 use Rattle.trop_files.proofs.generators.kept_rows.Goals as goal
 

@@ -1,4 +1,4 @@
-use Rattle.std.proofs.Common.{◌∙◌, sym, refl, arith, length, ap, List, ◌≡◌, [], ◌≤◌}
+use Rattle.std.proofs.Common.{◌∙◌, sym, refl, arith}
 use Rattle.std.proofs.lemmas.Result.{err_from_is_err_and}
 use Rattle.trop_grammar.proofs.Loops.{list-more, list-done, list-closed}
 use Rattle.trop_files.specs.Header.{next_name, name_at, no_name, names_at}
