@@ -6,3 +6,5 @@ pub mod UnitRows
 pub mod Pushes
 pub mod Conversions
 pub mod Equals
+pub mod TypedParents
+pub mod TypeMasks

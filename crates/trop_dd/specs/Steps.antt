@@ -3,7 +3,8 @@ use Rattle.std.specs.Prelude.{◌≡◌, ◌+◌, ◌^◌, ◌≤◌, ℕ, min, 
 use Rattle.trop_theory.specs.Semiring.{Semiring}
 use Rattle.trop_theory.specs.Normal.{IsNormal, Normalises}
 use Rattle.trop_theory.specs.Inequalities.{Inequality, IsIn}
-use Rattle.trop_theory.specs.Extreme.{IsExtreme}
+use Rattle.trop_theory.specs.Vectors.{entry, dot}
+use Rattle.trop_theory.specs.Extreme.{IsExtreme, IsType}
 use Rattle.trop_theory.specs.Canonical.{RowBelow}
 use Rattle.trop_theory.specs.Steps.{mixed}
 use Rattle.trop_dd.specs.declared.splitting.Part.{Part}
@@ -35,3 +36,8 @@ HasMixed {V} R cone p rows found kept dropped = (d e x : List V) → Normalises 
 -- x is the normal form of what the rows at these places give
 abbrev pub IsTheMixed : {V : Type 0} → Semiring V → Inequality V → List (List V) → Part V → Part V → List V → Type 0
 IsTheMixed {V} R p rows kept dropped x = (d e y : List V) → Normalises R (mixed R p.left p.right (slice_index_or rows kept.place d) (slice_index_or rows dropped.place e)) y → y ≡ x
+
+-- The row is least in the cone, among the vectors below it, by some coordinate where its right sum is reached. Only such
+-- rows have to be mixed.
+abbrev pub Leads : {V : Type 0} → Semiring V → (List V → Type 0) → Inequality V → List V → Type 0
+Leads R cone p v = (j : ℕ) × IsType R cone v j × (R.times (entry R p.right j) (entry R v j) ≡ dot R p.right v)

@@ -7,6 +7,7 @@ mod dd;
 mod error;
 mod found;
 mod laws;
+mod leading;
 mod mixing;
 mod narrowing;
 mod splitting;

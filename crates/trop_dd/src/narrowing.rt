@@ -4,6 +4,7 @@ ghost use Rattle.trop_dd.specs.Description.{CountsNew, Describes, IsRefusedBy};
 ghost use Rattle.trop_dd.specs.Steps.{IsLonger};
 
 use crate::error::DdErr;
+use crate::leading::leading_parts;
 use crate::mixing::{Found, try_all};
 use crate::splitting::{Split, split_rows};
 use std::alloc::Global;
@@ -32,6 +33,7 @@ pub fn narrowed<S: Scalar>(
         kept,
         dropped,
     } = split_rows(alloc, rows, ineq)?;
+    let leading = leading_parts(alloc, system, ineq, rows, kept.as_slice(), looks)?;
     let mut found = Found {
         rows: stay,
         hyper: Hyper::new(alloc, Mask::empty()),
@@ -41,7 +43,7 @@ pub fn narrowed<S: Scalar>(
         system,
         ineq,
         rows,
-        kept.as_slice(),
+        leading.as_slice(),
         dropped.as_slice(),
         &mut found,
         looks,
