@@ -33,7 +33,6 @@ only_end_again false (Ok c) what h = absurd cc
 only_end_again false (Err w) what h = absurd cc
 
 module _ {T W A C : Type 0} where
-
   -- lists whose end is told by the token alone
   pub parts_of : (ends : T → Bool) (judge : List A → T → Result C W) (past : T → W) (item : List A → C → List T → Reading T W A) (Rest : List A → C → List T → A → Type 0) (end : T) → ends end ≡ true
       → ((xs : List A) (c : C) → Reads Anything (item xs c) (Rest xs c)) → AreParts (λ xs t. next_or_end (ends t) (judge xs t)) item (λ xs t. only_end (ends t) (past t)) Rest
