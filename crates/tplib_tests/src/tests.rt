@@ -1,3 +1,5 @@
+mod at_answers;
+mod at_faults;
 mod bad_words;
 mod counts;
 mod devices;

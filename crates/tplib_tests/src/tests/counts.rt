@@ -617,6 +617,90 @@ const INEQUALITIES: [Case; 37] = [
     },
 ];
 
+// The same in front of a row.
+const ROWS: [Case; 8] = [
+    Case {
+        words: "tangent",
+        head: "kind at\nsemiring max\nvars x\n",
+        line: "x <= 4\n",
+        count: 1_024,
+        last: "at [0, 3]\n",
+        code: 0,
+        out: "types: none\nextreme: no\n",
+        err: "",
+    },
+    Case {
+        words: "tangent",
+        head: "kind at\nsemiring max\nvars x\n",
+        line: "x <= 4\n",
+        count: 1_023,
+        last: "x <= 3\nat [0, 3]",
+        code: 0,
+        out: "edge 1024: 0 -> x\ntypes: x\nextreme: yes\n",
+        err: "",
+    },
+    Case {
+        words: "tangent",
+        head: "kind at\nsemiring max\nvars x\n",
+        line: "x <= 4\n",
+        count: 1_024,
+        last: "at [0]\n",
+        code: 3,
+        out: "",
+        err: "tplib: line 1028, column 6: syntax\n",
+    },
+    Case {
+        words: "tangent",
+        head: "kind at\nsemiring max\nvars x\n",
+        line: "x <= 4\n",
+        count: 1_024,
+        last: "",
+        code: 3,
+        out: "",
+        err: "tplib: line 1028, column 1: syntax\n",
+    },
+    Case {
+        words: "tangent",
+        head: "kind at\nsemiring max\nvars x\n",
+        line: "x <= 4\n",
+        count: 1_024,
+        last: "x <= 4\nat [0, 3]\n",
+        code: 3,
+        out: "",
+        err: "tplib: line 1028: too many lines\n",
+    },
+    Case {
+        words: "tangent",
+        head: "kind at\nsemiring max\nvars x\n",
+        line: "x <= 4\n",
+        count: 1_024,
+        last: "z",
+        code: 3,
+        out: "",
+        err: "tplib: line 1028: too many lines\n",
+    },
+    Case {
+        words: "tangent",
+        head: "kind at\nsemiring max\nvars x\n",
+        line: "x <= 4\n",
+        count: 1_024,
+        last: "5",
+        code: 3,
+        out: "",
+        err: "tplib: line 1028: too many lines\n",
+    },
+    Case {
+        words: "tangent",
+        head: "kind at\nsemiring max\nvars x\n",
+        line: "x <= 4\n",
+        count: 1_024,
+        last: ")",
+        code: 3,
+        out: "",
+        err: "tplib: line 1028, column 1: syntax\n",
+    },
+];
+
 #[test]
 fn at_most_4096_lines_of_generators(rt: HostRuntime) -> Result<(), Fail> {
     let alloc = rt.alloc();
@@ -637,6 +721,22 @@ fn at_most_4096_lines_of_generators(rt: HostRuntime) -> Result<(), Fail> {
 fn at_most_1024_inequalities(rt: HostRuntime) -> Result<(), Fail> {
     let alloc = rt.alloc();
     for case in &INEQUALITIES {
+        assert!(rt;
+            is_met(alloc, case)?,
+            "{} .. {}{}{}",
+            case.line,
+            case.last,
+            case.out,
+            case.err
+        );
+    }
+    Ok(())
+}
+
+#[test]
+fn at_most_1024_inequalities_before_a_row(rt: HostRuntime) -> Result<(), Fail> {
+    let alloc = rt.alloc();
+    for case in &ROWS {
         assert!(rt;
             is_met(alloc, case)?,
             "{} .. {}{}{}",
