@@ -1,0 +1,6 @@
+pub mod Splitting
+pub mod Elements
+pub mod Rows
+pub mod Files
+pub mod Sizes
+pub mod Texts
