@@ -1,35 +1,37 @@
 -- The rows of a canonical list have few enough digits to be printed whole.
-use Rattle.std.proofs.Common.{◌≡◌, ◌<◌, ◌≤◌, ◌+◌, ◌*◌, ◌-◌, ◌^◌, ℕ, List, get_or, sym, ap, ◌∙◌, arith}
+use Rattle.std.proofs.Common.{◌≡◌, ◌<◌, ◌≤◌, ◌+◌, ◌*◌, ◌-◌, ◌^◌, ℕ, List, get_or, map, sym, ap, ◌∙◌, arith}
 use Rattle.std.specs.Prelude.{All}
 use Rattle.std.proofs.Math.Nat.{mul-le-mul_left}
 use Rattle.trop_theory.specs.Semiring.{Semiring, SemiringLaws}
 use Rattle.trop_theory.specs.Vectors.{entry, scaled, row_size, rows_size, AreWide}
 use Rattle.trop_theory.specs.Normal.{IsNormal}
-use Rattle.trop_theory.specs.Inequalities.{Inequality, IsIn, Solves, system_size}
+use Rattle.trop_theory.specs.Inequalities.{Inequality, Solves, system_size}
 use Rattle.trop_theory.specs.Combinations.{IsCombination}
 use Rattle.trop_theory.specs.Extreme.{IsExtreme}
 use Rattle.trop_theory.specs.Canonical.{IsCanonical}
 use Rattle.trop_theory.proofs.Order.{left_factor_finite}
 use Rattle.trop_theory.proofs.Rows.{entry-scaled}
 use Rattle.trop_theory.proofs.Combinations.{IsCombination-length}
-use Rattle.trop_theory.proofs.Canonical.{multiple_from_extreme}
+use Rattle.trop_theory.proofs.Canonical.{IsExtreme-same, multiple_from_extreme}
 use Rattle.trop_criterion.proofs.SizeBound.{extreme_row_small}
 use Rattle.trop_row.proofs.NormalSteps.{size_normalised}
 use Rattle.trop_row.proofs.Steps.{rows_size-at}
+use Rattle.tplib_laws.proofs.Fitting.{fitted_sides, Solves-fitted, IsIn-fitted, system_size-fitted}
 use Rattle.tplib_laws.proofs.Rows.{IsPrintable}
 
 module _ {V : Type 0} {R : Semiring V} (laws : SemiringLaws R) (n : ℕ) where
   -- of solutions
-  solution_small : (system : List (Inequality V)) (x : List V) → n ≤ 64 → All (IsIn n) system → system_size R system ≤ 2 ^ 49 → IsExtreme R (Solves R n system) x → IsNormal R x → row_size R x < 2 ^ 63
-  solution_small system x few inside size extreme normal =
+  solution_small : (system : List (Inequality V)) (x : List V) → n ≤ 64 → system_size R system ≤ 2 ^ 49 → IsExtreme R (Solves R n system) x → IsNormal R x → row_size R x < 2 ^ 63
+  solution_small system x few size extreme normal =
       let most : 4 * system_size R system * (n - 1) ≤ 4 * system_size R system * 63 = mul-le-mul_left (4 * system_size R system) (omega arith) in
-      omega (arith, extreme_row_small laws n (system_size R system) system x inside (omega arith) extreme normal, most)
+      let as_fitted = IsExtreme-same (Solves R n system) (Solves R n (map (fitted_sides R n) system)) (Solves-fitted laws n system) x extreme in
+      omega (arith, extreme_row_small laws n (system_size R system) (map (fitted_sides R n) system) x (IsIn-fitted laws n system) (system_size-fitted laws n system) as_fitted normal, most)
 
-  pub solutions_printable : (system : List (Inequality V)) (answer : List (List V)) → n ≤ 64 → All (IsIn n) system → system_size R system ≤ 2 ^ 49 → IsCanonical R (Solves R n system) answer → All (IsPrintable R n) answer
-  solutions_printable system answer few inside size h k d l = record {
+  pub solutions_printable : (system : List (Inequality V)) (answer : List (List V)) → n ≤ 64 → system_size R system ≤ 2 ^ 49 → IsCanonical R (Solves R n system) answer → All (IsPrintable R n) answer
+  solutions_printable system answer few size h k d l = record {
     wide = (h.extreme k d l).member.wide;
     normal = h.normal k d l;
-    small = solution_small system (get_or answer k d) few inside size (h.extreme k d l) (h.normal k d l);
+    small = solution_small system (get_or answer k d) few size (h.extreme k d l) (h.normal k d l);
   }
 
   -- of combinations: each is a multiple of a row

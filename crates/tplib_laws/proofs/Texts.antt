@@ -4,7 +4,7 @@ use Rattle.std.specs.Prelude.{All, ◌↔◌}
 use Rattle.trop_theory.specs.Semiring.{Semiring, SemiringLaws}
 use Rattle.trop_theory.specs.Numbers.{Numbering, NumberLaws}
 use Rattle.trop_theory.specs.Vectors.{rows_size, AreWide}
-use Rattle.trop_theory.specs.Inequalities.{Inequality, IsIn, Solves, system_size}
+use Rattle.trop_theory.specs.Inequalities.{Inequality, Solves, system_size}
 use Rattle.trop_theory.specs.Combinations.{IsCombination}
 use Rattle.trop_theory.specs.Canonical.{IsCanonical}
 use Rattle.trop_theory.proofs.Unique.{IsCanonical-unique}
@@ -36,12 +36,12 @@ module _ {V : Type 0} {R : Semiring V} {N : Numbering V} (laws : SemiringLaws R)
     λ same. a.printed ∙ ap (printed_gens kind N names) (IsCanonical-unique laws C D a.answer b.answer same a.canonical b.canonical) ∙ sym b.printed,
   )
 
-  file_of_solutions : (system : List (Inequality V)) (s : List ℕ) → length names ≤ 63 → All (IsIn (length names + 1)) system → system_size R system ≤ 2 ^ 49 → IsConverted kind R N names system s → IsFileOf kind R N names (Solves R (length names + 1) system) s
-  file_of_solutions system s few inside size h = record {
+  file_of_solutions : (system : List (Inequality V)) (s : List ℕ) → length names ≤ 63 → system_size R system ≤ 2 ^ 49 → IsConverted kind R N names system s → IsFileOf kind R N names (Solves R (length names + 1) system) s
+  file_of_solutions system s few size h = record {
     answer = h.answer;
     canonical = h.canonical;
     generates = h.generates;
-    printable = solutions_printable laws (length names + 1) system h.answer (omega arith) inside size h.canonical;
+    printable = solutions_printable laws (length names + 1) system h.answer (omega arith) size h.canonical;
     printed = h.printed;
   }
 
@@ -54,10 +54,10 @@ module _ {V : Type 0} {R : Semiring V} {N : Numbering V} (laws : SemiringLaws R)
     printed = h.printed;
   }
 
-  pub converted_texts : (system other : List (Inequality V)) (s t : List ℕ) → length names ≤ 63 → All (IsIn (length names + 1)) system → All (IsIn (length names + 1)) other → system_size R system ≤ 2 ^ 49 → system_size R other ≤ 2 ^ 49
+  pub converted_texts : (system other : List (Inequality V)) (s t : List ℕ) → length names ≤ 63 → system_size R system ≤ 2 ^ 49 → system_size R other ≤ 2 ^ 49
       → IsConverted kind R N names system s → IsConverted kind R N names other t → (s ≡ t) ↔ ((x : List V) → Solves R (length names + 1) system x ↔ Solves R (length names + 1) other x)
-  converted_texts system other s t few inside within size bound h k =
-      same_texts (Solves R (length names + 1) system) (Solves R (length names + 1) other) s t (file_of_solutions system s few inside size h) (file_of_solutions other t few within bound k)
+  converted_texts system other s t few size bound h k =
+      same_texts (Solves R (length names + 1) system) (Solves R (length names + 1) other) s t (file_of_solutions system s few size h) (file_of_solutions other t few bound k)
 
   pub reduced_texts : (rows others : List (List V)) (s t : List ℕ) → AreWide (length names + 1) rows → AreWide (length names + 1) others → rows_size R rows ≤ 2 ^ 59 → rows_size R others ≤ 2 ^ 59
       → IsReduced kind R N names rows s → IsReduced kind R N names others t → (s ≡ t) ↔ ((x : List V) → IsCombination R (length names + 1) rows x ↔ IsCombination R (length names + 1) others x)

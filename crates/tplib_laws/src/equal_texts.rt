@@ -1,6 +1,6 @@
-ghost use Rattle.std.specs.Prelude.{◌≡◌, ◌↔◌, ◌≤◌, ◌+◌, ◌^◌, ℕ, List, length, All};
+ghost use Rattle.std.specs.Prelude.{◌≡◌, ◌↔◌, ◌≤◌, ◌+◌, ◌^◌, ℕ, List, length};
 ghost use Rattle.trop_theory.specs.Vectors.{AreWide, rows_size};
-ghost use Rattle.trop_theory.specs.Inequalities.{Inequality, IsIn, Solves, system_size};
+ghost use Rattle.trop_theory.specs.Inequalities.{Inequality, Solves, system_size};
 ghost use Rattle.trop_theory.specs.Combinations.{IsCombination};
 ghost use Rattle.tplib_cmd.specs.Answers.{IsConverted, IsReduced};
 
@@ -10,7 +10,7 @@ use trop_files::Spelling;
 /// their answers have equal bytes. The coefficients have size at most 2^49, and there are at most 63 variables, as in
 /// every file that is read: so each number of the answer is short enough to be printed whole.
 pub fn equal_texts_are_equal_solutions<S: Spelling>()
-    ensures { (names : List (List ℕ)) (system other : List (Inequality S)) (text second : List ℕ) → length names ≤ 63 → All (IsIn (length names + 1)) system → All (IsIn (length names + 1)) other → system_size S.ring system ≤ 2 ^ 49 → system_size S.ring other ≤ 2 ^ 49 → IsConverted S.kind S.ring S.numbering names system text → IsConverted S.kind S.ring S.numbering names other second → (text ≡ second) ↔ ((x : List S) → Solves S.ring (length names + 1) system x ↔ Solves S.ring (length names + 1) other x) }
+    ensures { (names : List (List ℕ)) (system other : List (Inequality S)) (text second : List ℕ) → length names ≤ 63 → system_size S.ring system ≤ 2 ^ 49 → system_size S.ring other ≤ 2 ^ 49 → IsConverted S.kind S.ring S.numbering names system text → IsConverted S.kind S.ring S.numbering names other second → (text ≡ second) ↔ ((x : List S) → Solves S.ring (length names + 1) system x ↔ Solves S.ring (length names + 1) other x) }
 {}
 
 /// Two files of generators with one header have the same combinations exactly where the texts of their answers have
