@@ -63,8 +63,8 @@ fn leads<S: Scalar>(
     }
 }
 
-// The parts whose rows lead, and maybe others.
-pub fn leading_parts<S: Scalar>(
+// The parts whose rows lead, and maybe others, each judged by its tangent hypergraph.
+fn judged_parts<S: Scalar>(
     alloc: Global,
     system: &System<S>,
     ineq: &Ineq<S>,
@@ -88,4 +88,31 @@ pub fn leading_parts<S: Scalar>(
         }
     }
     Ok(leading)
+}
+
+// The parts whose rows lead, and maybe others. Where so few rows are dropped that mixing them with each part costs no more
+// than judging the parts, these are all parts.
+pub fn leading_parts<S: Scalar>(
+    alloc: Global,
+    system: &System<S>,
+    ineq: &Ineq<S>,
+    rows: &[Row<S>],
+    kept: &[Part<S>],
+    dropped: usize,
+    looks: &mut Looks,
+) -> Result<Vec<Part<S>>, AllocError>
+    requires longer { IsLonger S.ring system.now.n system.now.inequalities ineq.now rows.now }
+    requires at_most { system.now.n ≤ 64 }
+    requires size { system_size S.ring system.now.inequalities ≤ 2 ^ 49 }
+    requires sizes { All (λ row. row_size S.ring row ≤ 2 ^ 57) rows.now }
+    requires kept { All (IsKept S.ring ineq.now rows.now) kept.now }
+    ensures each { IfOk result (λ leading. All (IsKept S.ring ineq.now rows.now) leading.items) }
+    ensures all { IfOk result (λ leading. All (λ part. (d : _) → Leads S.ring (Solves S.ring system.now.n system.now.inequalities) ineq.now (slice_index_or rows.now part.place d) → Contains leading.items part) kept.now) }
+    ensures counted { looks.old ≤ looks.new }
+{
+    if dropped <= 1 {
+        let every = Vec::from_slice(alloc, kept)?;
+        return Ok(every);
+    }
+    judged_parts(alloc, system, ineq, rows, kept, looks)
 }

@@ -33,7 +33,15 @@ pub fn narrowed<S: Scalar>(
         kept,
         dropped,
     } = split_rows(alloc, rows, ineq)?;
-    let leading = leading_parts(alloc, system, ineq, rows, kept.as_slice(), looks)?;
+    let leading = leading_parts(
+        alloc,
+        system,
+        ineq,
+        rows,
+        kept.as_slice(),
+        dropped.len(),
+        looks,
+    )?;
     let mut found = Found {
         rows: stay,
         hyper: Hyper::new(alloc, Mask::empty()),

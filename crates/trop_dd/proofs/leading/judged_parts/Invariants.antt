@@ -3,7 +3,7 @@ use Rattle.std.specs.Prelude.{All, Contains}
 use Rattle.trop_theory.specs.Inequalities.{Solves}
 use Rattle.trop_dd.specs.Parts.{IsKept}
 use Rattle.trop_dd.specs.Steps.{Leads}
-use Rattle.trop_dd.proofs.leading.leading_parts.Given as goal
+use Rattle.trop_dd.proofs.leading.judged_parts.Given as goal
 
 abbrev pub invariant-loop-part : goal.invariant-loop-part
 invariant-loop-part g l = record {

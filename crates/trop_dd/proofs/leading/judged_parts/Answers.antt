@@ -6,8 +6,8 @@ use Rattle.trop_theory.specs.Inequalities.{Solves}
 use Rattle.trop_dd.specs.Parts.{IsKept}
 use Rattle.trop_dd.proofs.TypeMasks.{IsListed, listed_push, listed_skip}
 use Rattle.trop_dd.proofs.Narrowings.{longer_last_size, kept_solves}
-use Rattle.trop_dd.proofs.leading.leading_parts.Goals as goal
-use Rattle.trop_dd.proofs.leading.leading_parts.Goals.{then-branch+in_ok-push, else-branch}
+use Rattle.trop_dd.proofs.leading.judged_parts.Goals as goal
+use Rattle.trop_dd.proofs.leading.judged_parts.Goals.{then-branch+in_ok-push, else-branch}
 
 pub leads-requires-clause-solves : goal.leads-requires-clause-solves
 leads-requires-clause-solves g c =
