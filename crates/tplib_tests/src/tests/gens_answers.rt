@@ -150,3 +150,13 @@ fn files_of_generators_are_reduced(rt: HostRuntime) -> Result<(), Fail> {
     }
     Ok(())
 }
+
+#[test]
+fn what_reduce_writes_is_read_back_as_it_stands(rt: HostRuntime) -> Result<(), Fail> {
+    let alloc = rt.alloc();
+    for (_, out) in &ANSWERS {
+        let ends = ends_so(alloc, "reduce", out.as_bytes(), 0, out.as_bytes(), b"")?;
+        assert!(rt; ends, "{out}");
+    }
+    Ok(())
+}
