@@ -8,3 +8,5 @@ pub mod Signs
 pub mod Longest
 pub mod Lexing
 pub mod Feeds
+pub mod Written
+pub mod WrittenTokens
