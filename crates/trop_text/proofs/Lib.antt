@@ -10,3 +10,4 @@ pub mod Lexing
 pub mod Feeds
 pub mod Written
 pub mod WrittenTokens
+pub mod WrittenLines

@@ -1,5 +1,5 @@
 -- A word, digits and a sign are each read as one token, before what does not go on with them.
-use Rattle.std.proofs.Common.{◌≡◌, ◌≤◌, ◌<◌, ◌+◌, ◌-◌, ◌^◌, ◌||◌, ◌&&◌, ℕ, zero, suc, Bool, true, false, cond, if◌then◌else◌, List, [], ◌∷◌, ◌++◌, map, length, take, drop, codes, refl, sym, ap, ◌∙◌, subst, arith, append_assoc, length-append}
+use Rattle.std.proofs.Common.{◌≡◌, ◌≤◌, ◌<◌, ◌+◌, ◌^◌, ℕ, Bool, true, false, List, [], ◌∷◌, ◌++◌, length, take, drop, codes, refl, ap, ◌∙◌, arith, length-append}
 use Rattle.std.specs.Prelude.{decimal}
 use Rattle.std.specs.List.{list_all, prefix_len}
 use Rattle.std.specs.Int.{IsInRange}
@@ -10,13 +10,13 @@ use Rattle.std.proofs.lemmas.Str.Parse.{digit_from_value}
 use Rattle.std.proofs.lemmas.Fmt.{decimal_is_IsNumeral, decimal_nonempty}
 use Rattle.trop_text.specs.Bytes.{is_letter, is_digit, is_word_byte, is_line_feed, is_blank, is_hash}
 use Rattle.trop_text.specs.Name.{is_word}
-use Rattle.trop_text.specs.Tokens.{Tok, kind_of, tail_len, sign_len, is_long_sign, is_short_sign, tokens_past}
-use Rattle.trop_text.specs.Pieces.{Piece, Token}
+use Rattle.trop_text.specs.Tokens.{kind_of, tail_len, sign_len, is_long_sign, is_short_sign, tokens_past}
+use Rattle.trop_text.specs.Pieces.{Piece}
 use Rattle.trop_text.specs.declared.token.TokenKind.{TokenKind}
 use Rattle.trop_text.specs.declared.token.TokenKind.TheVariants.{Word, Digits, Sign}
 use Rattle.trop_text.proofs.Signs.{and_first, and_second, and_both}
 use Rattle.trop_text.proofs.Skips.{tokens_skip}
-use Rattle.trop_text.proofs.Written.{tok, AreOn, IsOne, IsLexed, IsWritten}
+use Rattle.trop_text.proofs.Written.{tok, IsOne, IsLexed, IsWritten}
 
 -- anything may follow
 abbrev pub Always : List ℕ → Type 0
