@@ -1,4 +1,10 @@
 pub mod Printing
+pub mod Coefficients
+pub mod NameWords
+pub mod PrintedTerms
+pub mod WrittenTerms
+pub mod WrittenSides
+pub mod WrittenHeader
 pub mod ElementLaws
 pub mod FileLaws
 pub mod Loops

@@ -103,10 +103,10 @@ pub record AreLines (text rest : List ℕ) (line next : ℕ) (G : List Piece →
 pub lines_none : {G : List Piece → Type 0} (rest : List ℕ) (line : ℕ) → G [] → AreLines [] rest line line G
 lines_none rest line is = record { pieces = []; read = refl; are = is }
 
--- a line and the byte that ends it
-pub lines_one : {S : List ℕ → Type 0} {G H : List Piece → Type 0} {text : List ℕ} (rest : List ℕ) (line : ℕ) → line ≢ 0 → S (codes "\n" ++ rest) → HasToken G → ((us : List Piece) → G us → H (us ++ LineEnd line ∷ []))
+-- a line and the byte that ends it, where the tokens are known to be of this line
+pub lines_on : {S : List ℕ → Type 0} {G H : List Piece → Type 0} {text : List ℕ} (rest : List ℕ) (line : ℕ) → line ≢ 0 → S (codes "\n" ++ rest) → HasToken G → ((ts : List Tok) → AreOn line ts → G (map Token ts) → H (map Token ts ++ LineEnd line ∷ []))
     → IsWritten S text G → AreLines (text ++ codes "\n") rest line (line + 1) H
-lines_one {S} {G} {H} {text} rest line numbered stops has to g =
+lines_on {S} {G} {H} {text} rest line numbered stops has to g =
     let a = g.at (codes "\n" ++ rest) line 1 stops in
     let feed = feed_step rest line (1 + length text) in
     let later : AreLater line (tokens_at rest (line + 1) 1) = tokens_later 0 rest line (line + 1) 1 (omega arith) in
@@ -117,8 +117,13 @@ lines_one {S} {G} {H} {text} rest line numbered stops has to g =
           ∙ ap (λ ts. pieces_from ts 0) (a.lexed ∙ ap (λ ts. a.tokens ++ ts) feed)
           ∙ line_pieces a.tokens (tokens_at rest (line + 1) 1) line a.on (some_token G a.tokens has a.is) numbered later
           ∙ sym (append_assoc (map Token a.tokens) (LineEnd line ∷ []) (pieces_from (tokens_at rest (line + 1) 1) 0));
-      are = to (map Token a.tokens) a.is;
+      are = to a.tokens a.on a.is;
     }
+
+-- a line and the byte that ends it
+pub lines_one : {S : List ℕ → Type 0} {G H : List Piece → Type 0} {text : List ℕ} (rest : List ℕ) (line : ℕ) → line ≢ 0 → S (codes "\n" ++ rest) → HasToken G → ((us : List Piece) → G us → H (us ++ LineEnd line ∷ []))
+    → IsWritten S text G → AreLines (text ++ codes "\n") rest line (line + 1) H
+lines_one {S} {G} {H} {text} rest line numbered stops has to g = lines_on rest line numbered stops has (λ ts on is. to (map Token ts) is) g
 
 -- lines behind others
 pub lines_join : {G H K : List Piece → Type 0} {text more rest : List ℕ} {line mid next : ℕ} → ((us vs : List Piece) → G us → H vs → K (us ++ vs))
