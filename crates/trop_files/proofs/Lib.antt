@@ -19,3 +19,4 @@ pub mod AtBodies
 pub mod PairFileLaws
 pub mod PairBodies
 pub mod ReadSizes
+pub mod WrittenElements
