@@ -5,6 +5,8 @@ pub mod PrintedTerms
 pub mod WrittenTerms
 pub mod WrittenSides
 pub mod WrittenHeader
+pub mod WrittenInequalities
+pub mod WrittenSystems
 pub mod ElementLaws
 pub mod FileLaws
 pub mod Loops

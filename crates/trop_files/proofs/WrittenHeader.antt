@@ -182,7 +182,7 @@ line_is [] line at column text items on e = absurd cc
 line_is (t ∷ ts) line at column text items on e = let same : t ≡ tok Word text at column = cc in sym (ap (λ u. u.line) same) ∙ on.0
 
 -- a header of these
-abbrev header_of : RingKind → List (List ℕ) → ℕ → Header
+abbrev pub header_of : RingKind → List (List ℕ) → ℕ → Header
 header_of kind names line = record { ring = kind; names = names; vars_line = line }
 
 abbrev NamesLine : RingKind → List (List ℕ) → ℕ → List Piece → Type 0

@@ -32,7 +32,7 @@ module _ {V : Type 0} (R : Semiring V) (N : Numbering V) (numbers_are : NumberLa
       by (inl below) = let p : None ≡ Some c = sym ((numbers_are.none x).1 below) ∙ e in absurd cc
       by (inr same) = same
 
-  truth_number_is : IsTruthOnly R N → (x : V) (c : ℤ) → N.to x ≡ Some c → c ≡ pos 0
+  pub truth_number_is : IsTruthOnly R N → (x : V) (c : ℤ) → N.to x ≡ Some c → c ≡ pos 0
   truth_number_is truths x c e = let p : Some c ≡ Some (pos 0) = sym e ∙ ap N.to (truth_is_one truths x c e) ∙ truths.number in cc
 
   numeric_one : {reversed : Bool} → NumericLaws R N reversed → (x : V) (c : ℤ) → N.to x ≡ Some c → c ≡ pos 0 → x ≡ R.one

@@ -20,3 +20,5 @@ pub mod HeldPlaces
 pub mod PairFiles
 pub mod HeldPairs
 pub mod Sizes
+pub mod ByNumber
+pub mod OnlyLines

@@ -1,6 +1,12 @@
-ghost use Rattle.std.specs.Prelude.{◌≡◌, ◌+◌, ◌++◌, length, OnOk, IfOk, All};
+ghost use Rattle.std.specs.Prelude.{◌≡◌, ◌≤◌, ◌+◌, ◌++◌, length, map, OnOk, IfOk, All};
 ghost use Rattle.trop_theory.specs.Normal.{IsNormal};
+ghost use Rattle.trop_theory.specs.Inequalities.{system_size};
+ghost use Rattle.trop_text.specs.Names.{AreNames};
+ghost use Rattle.trop_text.specs.Pieces.{pieces_of};
 ghost use Rattle.trop_files.specs.Printed.{numbers, after_spaces, printed_header, generator_line, printed_gens, printed_ineqs};
+ghost use Rattle.trop_files.specs.Generators.{greatest_number};
+ghost use Rattle.trop_files.specs.InequalityFiles.{most_inequalities, SpellsInequalities};
+ghost use Rattle.trop_files.specs.ByNumber.{inequality_numbers, inequalities_by_number};
 
 use crate::print_row::push_row;
 use crate::print_side::push_inequality;
@@ -28,19 +34,21 @@ pub fn print_gens<S: Spelling>(
     Ok(text)
 }
 
-/// The file of these inequalities, in the variables with these names.
+/// The file of these inequalities, in the variables with these names. Where a file may hold them, it is read back as these
+/// names and inequalities.
 pub fn print_ineqs<S: Spelling>(
     alloc: Global,
     names: &Names,
     system: &System<S>,
 ) -> Result<Vec<u8>, NoMemory>
     requires { system.now.n ≡ length names.now + 1 }
-    ensures { IfOk result (λ text. text.items ≡ printed_ineqs S.kind S.numbering names.now system.now.inequalities) }
+    ensures text { IfOk result (λ text. text.items ≡ printed_ineqs S.kind S.numbering names.now system.now.inequalities) }
+    ensures read_back { length system.now.inequalities ≤ most_inequalities → system_size S.ring system.now.inequalities ≤ greatest_number → IfOk result (λ text. SpellsInequalities (pieces_of text.items) (record { names = names.now; inequalities = inequalities_by_number S.kind (map (inequality_numbers S.numbering) system.now.inequalities) })) }
 {
     let mut text = Vec::new(alloc);
     push_header::<S>(&mut text, b"ineqs", names)?;
-    for k in 0..system.len() {
-        push_inequality(&mut text, names, system.get(k))?;
+    for ineq in system.as_slice() {
+        push_inequality(&mut text, names, ineq)?;
         text.push(b'\n')?;
     }
     Ok(text)
@@ -51,7 +59,8 @@ fn push_header<S: Spelling>(
     file_kind: &[u8],
     names: &Names,
 ) -> Result<(), NoMemory>
-    ensures { OnOk result (text.new.items ≡ text.old.items ++ printed_header file_kind.now S.kind names.now) }
+    ensures text { OnOk result (text.new.items ≡ text.old.items ++ printed_header file_kind.now S.kind names.now) }
+    ensures names { OnOk result (AreNames names.now) }
 {
     text.extend_from_slice(b"kind ")?;
     text.extend_from_slice(file_kind)?;
@@ -65,7 +74,8 @@ fn push_header<S: Spelling>(
 
 // Each name behind a space.
 fn push_names(text: &mut Vec<u8>, names: &Names) -> Result<(), NoMemory>
-    ensures { OnOk result (text.new.items ≡ text.old.items ++ after_spaces names.now) }
+    ensures text { OnOk result (text.new.items ≡ text.old.items ++ after_spaces names.now) }
+    ensures names { OnOk result (AreNames names.now) }
 {
     for place in 0..names.len() {
         text.push(b' ')?;

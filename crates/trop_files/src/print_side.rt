@@ -1,4 +1,7 @@
-ghost use Rattle.std.specs.Prelude.{◌≡◌, ◌+◌, ◌<◌, ◌≤◌, ◌++◌, [], length, codes, count_by, is_some, OnOk, IfOk, Some, if◌then◌else◌};
+ghost use Rattle.std.specs.Prelude.{◌≡◌, ◌+◌, ◌<◌, ◌≤◌, ◌^◌, ◌++◌, ℕ, [], length, codes, count_by, is_some, OnOk, IfOk, Some, if◌then◌else◌};
+ghost use Rattle.trop_theory.specs.Inequalities.{inequality_size};
+ghost use Rattle.trop_files.specs.Inequalities.{IsInequality};
+ghost use Rattle.trop_files.specs.OnlyLines.{IsOnlyLine};
 ghost use Rattle.trop_files.specs.Spelling.{order_word, sum_word};
 ghost use Rattle.trop_files.specs.Printed.{numbers, shift_text, term_text, terms_from, comma_list, printed_side, printed_inequality};
 
@@ -8,15 +11,18 @@ use std::alloc::Global;
 use trop_row::Ineq;
 use trop_text::Names;
 
-/// The inequality as it is printed, in the variables with these names.
+/// The inequality as it is printed, in the variables with these names. It is read back as it is, under each bound on
+/// sizes that it keeps.
 pub fn ineq_text<S: Spelling>(
     alloc: Global,
     names: &Names,
     ineq: &Ineq<S>,
 ) -> Result<Vec<u8>, NoMemory>
     requires { length ineq.now.left ≡ length names.now + 1 }
-    ensures { IfOk result (λ text. text.items ≡ printed_inequality S.kind S.numbering names.now ineq.now) }
+    ensures text { IfOk result (λ text. text.items ≡ printed_inequality S.kind S.numbering names.now ineq.now) }
+    ensures read_back { (bound : ℕ) → bound ≤ 2 ^ 48 → inequality_size S.ring ineq.now ≤ bound → IfOk result (λ text. IsOnlyLine (IsInequality S.kind S.ring S.numbering bound names.now) text.items ineq.now) }
 {
+    prove!(names.len() + 1 == ineq.right().len());
     let mut text = Vec::new(alloc);
     push_inequality(&mut text, names, ineq)?;
     Ok(text)
