@@ -7,6 +7,7 @@ pub mod WrittenSides
 pub mod WrittenHeader
 pub mod WrittenInequalities
 pub mod WrittenSystems
+pub mod WrittenByNumber
 pub mod ElementLaws
 pub mod FileLaws
 pub mod Loops

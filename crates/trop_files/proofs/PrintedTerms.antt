@@ -1,10 +1,9 @@
 -- The tokens of a printed term are read as the term.
-use Rattle.std.proofs.Common.{◌≡◌, ◌<◌, ◌≤◌, ◌+◌, ◌^◌, ℕ, Bool, true, false, List, [], ◌∷◌, ◌++◌, codes, Option, Some, Result, Ok, refl, sym, ap, ◌∙◌, subst, arith, pos, neg_ℤ}
+use Rattle.std.proofs.Common.{◌≡◌, ◌<◌, ◌≤◌, ◌+◌, ◌^◌, ℕ, Bool, true, false, List, [], ◌∷◌, ◌++◌, codes, Option, Some, Result, Ok, refl, sym, ap, subst, arith, pos, neg_ℤ}
 use Rattle.std.specs.Prelude.{decimal}
 use Rattle.std.specs.Str.{bytes_eq}
 use Rattle.std.specs.Str.Parse.{AllDigits}
 use Rattle.std.specs.Int.{IsInRange}
-use Rattle.std.proofs.lemmas.Bool.{le-leb}
 use Rattle.std.proofs.lemmas.List.{append-nil}
 use Rattle.std.proofs.lemmas.Slice.Eq.{bytes_eq-Decides}
 use Rattle.std.proofs.lemmas.Str.Parse.{digit_from_value}
@@ -13,7 +12,6 @@ use Rattle.trop_theory.specs.Semiring.{Semiring}
 use Rattle.trop_theory.specs.Numbers.{Numbering}
 use Rattle.trop_grammar.specs.Grammar.{One, Empty, Then, Optional, LeftOut, Written}
 use Rattle.trop_grammar.specs.Lists.{Passes}
-use Rattle.trop_text.specs.Digits.{number_of}
 use Rattle.trop_text.specs.Name.{is_name}
 use Rattle.trop_text.specs.Names.{place_of}
 use Rattle.trop_text.specs.Tokens.{Tok}
@@ -21,7 +19,6 @@ use Rattle.trop_text.specs.Pieces.{Piece, Token}
 use Rattle.trop_text.specs.declared.token.TokenKind.{TokenKind}
 use Rattle.trop_text.specs.declared.token.TokenKind.TheVariants.{Word, Digits, Sign}
 use Rattle.trop_text.specs.declared.fault.FaultKind.{FaultKind}
-use Rattle.trop_text.proofs.Numbers.{number_of-decimal}
 use Rattle.trop_text.proofs.Written.{tok, IsOne}
 use Rattle.trop_files.specs.Spelling.{RingKind, MaxKind, MinKind, BoolKind, sum_word}
 use Rattle.trop_files.specs.declared.terms.Term.{Term}
@@ -31,6 +28,7 @@ use Rattle.trop_files.specs.Words.{says, number}
 use Rattle.trop_files.specs.Elements.{max_behind, min_behind}
 use Rattle.trop_files.specs.Inequalities.{term_start, max_term, variable, shift, shift_sign, term, IsShifted, IsTermRest, IsTerm, side_start, IsSideRest, IsSide}
 use Rattle.trop_files.proofs.NameWords.{false_if, not_named}
+use Rattle.trop_files.proofs.WrittenElements.{number_passes}
 
 -- ---- digits
 
@@ -39,18 +37,11 @@ abbrev NoDigit : ℕ → Type 0
 NoDigit c = IsInRange 48 57 c → ⊥
 
 module _ (n : ℕ) (small : n < 2 ^ 64) where
-  number_of_written : number_of (decimal n) ≡ n
-  number_of_written = number_of-decimal (decimal n) (decimal_is_IsNumeral n small).0.1 ∙ (decimal_is_IsNumeral n small).1
-
   digits_differ : (c : ℕ) (word : List ℕ) → NoDigit c → bytes_eq (decimal n) (c ∷ word) ≡ false
   digits_differ c word other = false_if _ differs
     where
       differs : bytes_eq (decimal n) (c ∷ word) ≡ true → ⊥
       differs e = other (digit_from_value c (subst (AllDigits 10) ((bytes_eq-Decides (decimal n) (c ∷ word)).0 e) (decimal_is_IsNumeral n small).0.1).0)
-
-  number_passes : (bound line column : ℕ) → n ≤ bound → number bound (Token (tok Digits (decimal n) line column)) ≡ Ok n
-  unfolding number
-  number_passes bound line column le = rw (number_of_written, le-leb n bound le) refl
 
 -- ---- terms
 
@@ -127,7 +118,7 @@ module _ {V : Type 0} (R : Semiring V) (N : Numbering V) (bound : ℕ) (names : 
 
   max_digits : (n line column : ℕ) → n < 2 ^ 64 → n ≤ bound → max_term N bound names (Token (tok Digits (decimal n) line column)) ≡ Ok (Constant (N.of (pos n)))
   unfolding max_term
-  max_digits n line column small within = rw (digits_differ n small 45 [] (λ h. omega (arith, h)), number_passes n small bound line column within) refl
+  max_digits n line column small within = rw (digits_differ n small 45 [] (λ h. omega (arith, h)), number_passes n bound line column within small) refl
 
   -- a number that is not negative
   pub max_number : (n : ℕ) (us : List Piece) → n < 2 ^ 64 → n ≤ bound → IsOne Digits (decimal n) us → IsPlainTerm MaxKind R N bound names us (term 0 (N.of (pos n)))
@@ -179,7 +170,7 @@ module _ {V : Type 0} (R : Semiring V) (N : Numbering V) (bound : ℕ) (names : 
 
   pub max_negative : (n : ℕ) (us vs : List Piece) → n < 2 ^ 64 → n ≤ bound → IsOne Sign (codes "-") us → IsOne Digits (decimal n) vs → IsPlainTerm MaxKind R N bound names (us ++ vs) (term 0 (N.of (neg_ℤ (pos n))))
   max_negative n us vs small within o p =
-      max_minus _ us vs o (behind_minus (max_behind R N bound) _ (decimal n) Digits vs p (rw (digits_differ n small 111 (111 ∷ []) (λ h. omega (arith, h)), number_passes n small bound p.line p.column within) refl))
+      max_minus _ us vs o (behind_minus (max_behind R N bound) _ (decimal n) Digits vs p (rw (digits_differ n small 111 (111 ∷ []) (λ h. omega (arith, h)), number_passes n bound p.line p.column within small) refl))
 
   pub max_zero : (us vs : List Piece) → IsOne Sign (codes "-") us → IsOne Word (codes "oo") vs → IsPlainTerm MaxKind R N bound names (us ++ vs) (term 0 R.zero)
   max_zero us vs o p = max_minus _ us vs o (behind_minus (max_behind R N bound) R.zero (codes "oo") Word vs p refl)
@@ -193,7 +184,7 @@ module _ {V : Type 0} (R : Semiring V) (N : Numbering V) (bound : ℕ) (names : 
     whole = ap (λ ps. ps ++ vs) o.whole;
     begins = refl;
     unsummed = refl;
-    rest = behind_minus (min_behind N bound) _ (decimal n) Digits vs p (rw (number_passes n small bound p.line p.column within) refl);
+    rest = behind_minus (min_behind N bound) _ (decimal n) Digits vs p (rw (number_passes n bound p.line p.column within small) refl);
   }
 
 -- ---- variables
@@ -255,8 +246,8 @@ module _ {V : Type 0} (R : Semiring V) (N : Numbering V) (bound i : ℕ) where
 
   pub added : (n : ℕ) (us vs : List Piece) → n < 2 ^ 64 → n ≤ bound → IsOne Sign (codes "+") us → IsOne Digits (decimal n) vs
       → Optional shift_sign (term i R.one) (IsShifted N bound i) (us ++ vs) (term i (N.of (pos n)))
-  added n us vs small within o p = shifted true (codes "+") (decimal n) (N.of (pos n)) us vs o p refl (rw (number_passes n small bound p.line p.column within) refl)
+  added n us vs small within o p = shifted true (codes "+") (decimal n) (N.of (pos n)) us vs o p refl (rw (number_passes n bound p.line p.column within small) refl)
 
   pub taken : (n : ℕ) (us vs : List Piece) → n < 2 ^ 64 → n ≤ bound → IsOne Sign (codes "-") us → IsOne Digits (decimal n) vs
       → Optional shift_sign (term i R.one) (IsShifted N bound i) (us ++ vs) (term i (N.of (neg_ℤ (pos n))))
-  taken n us vs small within o p = shifted false (codes "-") (decimal n) (N.of (neg_ℤ (pos n))) us vs o p refl (rw (number_passes n small bound p.line p.column within) refl)
+  taken n us vs small within o p = shifted false (codes "-") (decimal n) (N.of (neg_ℤ (pos n))) us vs o p refl (rw (number_passes n bound p.line p.column within small) refl)

@@ -12,7 +12,7 @@ use Rattle.trop_grammar.specs.Lists.{Passes, AreItems, Item}
 use Rattle.trop_text.specs.Name.{is_name, is_word}
 use Rattle.trop_text.specs.Names as names_spec
 use Rattle.trop_text.specs.Names.{place_of}
-use Rattle.trop_text.specs.Tokens.{Tok, tokens_past}
+use Rattle.trop_text.specs.Tokens.{Tok}
 use Rattle.trop_text.specs.Pieces.{Piece, Token, LineEnd}
 use Rattle.trop_text.specs.declared.token.TokenKind.TheVariants.{Word}
 use Rattle.trop_text.specs.declared.fault.FaultKind.{FaultKind}
@@ -25,6 +25,7 @@ use Rattle.trop_files.specs.Printed.{after_spaces, printed_header}
 use Rattle.trop_files.specs.Words.{said, line_end}
 use Rattle.trop_files.specs.Header.{Header, semiring_word, vars_word, new_name, next_name, most_names, IsName, AreNames, IsKindLine, IsSemiringLine, IsHeader}
 use Rattle.trop_files.proofs.NameWords.{false_if}
+use Rattle.trop_files.proofs.WrittenElements.{none_written}
 
 -- ---- words
 
@@ -144,15 +145,12 @@ module _ (before : List (List ℕ)) (name : List ℕ) (names : List (List ℕ)) 
 abbrev Items : List (List ℕ) → List (List ℕ) → List Piece → Type 0
 Items before names us = AreItems (Item next_name IsName) before us names
 
-nothing_written : (before : List (List ℕ)) → IsWritten StopsWord [] (Items before [])
-nothing_written before = record { at = λ rest line column s. record { tokens = []; lexed = let n : column ≡ column + 0 = omega arith in ap (λ c. tokens_past 0 rest line c) n; on = tt; is = refl } }
-
 stops_before : (names : List (List ℕ)) (rest : List ℕ) → StopsWord rest → StopsWord (after_spaces names ++ rest)
 stops_before [] rest s = s
 stops_before (name ∷ names) rest s = refl
 
 names_written : (names before : List (List ℕ)) → names_spec.AreNames (before ++ names) → IsWritten StopsWord (after_spaces names) (Items before names)
-names_written [] before are = nothing_written before
+names_written [] before are = none_written refl
 names_written (name ∷ names) before are =
     let regroup : (before ++ name ∷ []) ++ names ≡ before ++ name ∷ names = append_assoc before (name ∷ []) names in
     let more = names_written names (before ++ name ∷ []) (subst names_spec.AreNames (sym regroup) are) in

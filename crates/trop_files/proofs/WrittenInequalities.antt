@@ -1,27 +1,22 @@
 -- Printed inequalities are read back.
-use Rattle.std.proofs.Common.{◌≡◌, ◌≢◌, ◌<◌, ◌≤◌, ◌+◌, ◌^◌, ℕ, zero, suc, Bool, true, false, List, [], ◌∷◌, ◌++◌, length, codes, Option, Some, None, Result, Ok, refl, sym, ap, ◌∙◌, subst, arith, append_assoc, append-nil}
-use Rattle.std.specs.Prelude.{max}
+use Rattle.std.proofs.Common.{◌≡◌, ◌<◌, ◌≤◌, ◌+◌, ◌^◌, ℕ, Bool, false, List, [], ◌∷◌, ◌++◌, length, Option, Ok, refl, sym, ap, ◌∙◌, subst, arith, append_assoc}
 use Rattle.trop_theory.specs.Semiring.{Semiring}
 use Rattle.trop_theory.specs.Numbers.{Numbering, NumberLaws}
-use Rattle.trop_theory.specs.Vectors.{row_size}
-use Rattle.trop_theory.specs.Inequalities.{Inequality, IsIn, inequality_size, system_size}
+use Rattle.trop_theory.specs.Inequalities.{Inequality, IsIn, inequality_size}
 use Rattle.trop_grammar.specs.Grammar.{One, Empty, Then}
-use Rattle.trop_grammar.specs.Lists.{Passes, AreItems, Item}
+use Rattle.trop_grammar.specs.Lists.{Passes}
 use Rattle.trop_text.specs.Names.{AreNames}
 use Rattle.trop_text.specs.Tokens.{Tok}
 use Rattle.trop_text.specs.Pieces.{Piece, Token, LineEnd}
 use Rattle.trop_text.specs.declared.token.TokenKind.TheVariants.{Sign}
-use Rattle.trop_text.proofs.Written.{tok, IsOne, IsWritten, written_join, written_as}
+use Rattle.trop_text.proofs.Written.{tok, IsOne, IsWritten, written_join}
 use Rattle.trop_text.proofs.WrittenTokens.{StopsWord, Always, long_written, blank_written}
-use Rattle.trop_text.proofs.WrittenLines.{AreLines, lines_none, lines_one, lines_join}
 use Rattle.trop_files.specs.Spelling.{RingKind, MaxKind, MinKind, BoolKind, KindLaws, order_word}
-use Rattle.trop_files.specs.Printed.{numbers, lines_of, printed_side, printed_inequality}
+use Rattle.trop_files.specs.Printed.{printed_inequality}
 use Rattle.trop_files.specs.declared.terms.Term.{Term}
 use Rattle.trop_files.specs.declared.terms.Start.{Start}
-use Rattle.trop_files.specs.Words.{line_end, is_input_end}
+use Rattle.trop_files.specs.Words.{line_end}
 use Rattle.trop_files.specs.Inequalities.{side_start, IsSide, coefficients, order_mark, inequality, IsInequalityRest, IsInequality}
-use Rattle.trop_files.specs.InequalityFiles.{next_inequality}
-use Rattle.trop_files.specs.Generators.{greatest_number}
 use Rattle.trop_files.proofs.Coefficients.{written_terms, written_read_back}
 use Rattle.trop_files.proofs.PrintedTerms.{IsOpenSide, open_is_side}
 use Rattle.trop_files.proofs.WrittenSides.{zero_is, side_written}

@@ -16,6 +16,7 @@ use Rattle.trop_files.specs.Printed.{shift_text}
 use Rattle.trop_files.specs.declared.terms.Start.TheVariants.{Variable}
 use Rattle.trop_files.specs.Inequalities.{term, shift_sign, IsShifted, IsTermRest}
 use Rattle.trop_files.proofs.NameWords.{place_at}
+use Rattle.trop_files.proofs.WrittenElements.{minus_alone, comma_alone}
 use Rattle.trop_files.proofs.PrintedTerms.{IsPlainTerm, max_number, min_number, max_negative, min_negative, max_zero, min_zero, truth_zero, truth_one, variable_term, lone_variable, added, taken}
 
 -- a number that is at most so large, if there is one
@@ -25,13 +26,13 @@ Within bound (Some n) = unsigned_abs n ≤ bound
 
 -- The signs of terms and sums, of which none begins a longer one.
 pub minus_written : IsWritten Always (codes "-") (IsOne Sign (codes "-"))
-minus_written = short_written 45 (record { stands = (refl, refl, refl); no_letter = refl; no_digit = refl; short = refl; alone = λ c. refl })
+minus_written = short_written 45 minus_alone
 
 pub plus_written : IsWritten Always (codes "+") (IsOne Sign (codes "+"))
 plus_written = short_written 43 (record { stands = (refl, refl, refl); no_letter = refl; no_digit = refl; short = refl; alone = λ c. refl })
 
 pub comma_written : IsWritten Always (codes ",") (IsOne Sign (codes ","))
-comma_written = short_written 44 (record { stands = (refl, refl, refl); no_letter = refl; no_digit = refl; short = refl; alone = λ c. refl })
+comma_written = short_written 44 comma_alone
 
 pub open_written : IsWritten Always (codes "(") (IsOne Sign (codes "("))
 open_written = short_written 40 (record { stands = (refl, refl, refl); no_letter = refl; no_digit = refl; short = refl; alone = λ c. refl })

@@ -1,4 +1,4 @@
-ghost use Rattle.std.specs.Prelude.{◌≡◌, ◌≤◌, ◌+◌, ◌++◌, length, map, OnOk, IfOk, All};
+ghost use Rattle.std.specs.Prelude.{◌≡◌, ◌≤◌, ◌+◌, ◌++◌, length, OnOk, IfOk, All};
 ghost use Rattle.trop_theory.specs.Normal.{IsNormal};
 ghost use Rattle.trop_theory.specs.Inequalities.{system_size};
 ghost use Rattle.trop_text.specs.Names.{AreNames};
@@ -6,7 +6,7 @@ ghost use Rattle.trop_text.specs.Pieces.{pieces_of};
 ghost use Rattle.trop_files.specs.Printed.{numbers, after_spaces, printed_header, generator_line, printed_gens, printed_ineqs};
 ghost use Rattle.trop_files.specs.Generators.{greatest_number};
 ghost use Rattle.trop_files.specs.InequalityFiles.{most_inequalities, SpellsInequalities};
-ghost use Rattle.trop_files.specs.ByNumber.{inequality_numbers, inequalities_by_number};
+ghost use Rattle.trop_files.specs.ByNumber.{file_by_number};
 
 use crate::print_row::push_row;
 use crate::print_side::push_inequality;
@@ -43,7 +43,7 @@ pub fn print_ineqs<S: Spelling>(
 ) -> Result<Vec<u8>, NoMemory>
     requires { system.now.n ≡ length names.now + 1 }
     ensures text { IfOk result (λ text. text.items ≡ printed_ineqs S.kind S.numbering names.now system.now.inequalities) }
-    ensures read_back { length system.now.inequalities ≤ most_inequalities → system_size S.ring system.now.inequalities ≤ greatest_number → IfOk result (λ text. SpellsInequalities (pieces_of text.items) (record { names = names.now; inequalities = inequalities_by_number S.kind (map (inequality_numbers S.numbering) system.now.inequalities) })) }
+    ensures read_back { length system.now.inequalities ≤ most_inequalities → system_size S.ring system.now.inequalities ≤ greatest_number → IfOk result (λ text. SpellsInequalities (pieces_of text.items) (file_by_number S.kind S.numbering names.now system.now.inequalities)) }
 {
     let mut text = Vec::new(alloc);
     push_header::<S>(&mut text, b"ineqs", names)?;

@@ -1,12 +1,12 @@
 use Rattle.std.proofs.Common.{◌≡◌, ◌≤◌, ◌+◌, ◌∷◌, length, drop, ap, sym, subst, arith}
-use Rattle.std.specs.Prelude.{All, map}
+use Rattle.std.specs.Prelude.{All}
 use Rattle.trop_theory.specs.Inequalities.{IsIn}
 use Rattle.trop_text.specs.Pieces.{pieces_of}
 use Rattle.trop_files.specs.Printed.{lines_of, printed_inequality}
 use Rattle.trop_files.specs.InequalityFiles.{SpellsInequalities}
-use Rattle.trop_files.specs.ByNumber.{inequality_numbers, inequalities_by_number}
+use Rattle.trop_files.specs.ByNumber.{file_by_number}
 use Rattle.trop_files.proofs.Printing.{two_more, drop_item, drop_all, all_done}
-use Rattle.trop_files.proofs.WrittenSystems.{system_read_back}
+use Rattle.trop_files.proofs.WrittenByNumber.{system_read_back}
 use Rattle.trop_files.proofs.print_file.print_ineqs.Goals as goal
 
 pub loop-ineq-preserved : goal.loop-ineq-preserved
@@ -28,5 +28,5 @@ returns-clause-read_back g c =
     let few_names : length names ≤ 63 = omega (arith, c.requires, c.as_slice-ineq-items.ensures.at_most) in
     let wide = subst (λ n. All (IsIn n) system) c.requires c.as_slice-ineq-items.ensures.wide in
     λ few small.
-    subst (λ bytes. SpellsInequalities (pieces_of bytes) (record { names = names; inequalities = inequalities_by_number kind (map (inequality_numbers N) system) })) (sym text)
+    subst (λ bytes. SpellsInequalities (pieces_of bytes) (file_by_number kind N names system)) (sym text)
     (system_read_back g.S.Scalar.REVERSED g.S.Scalar.ring N g.met.S.Scalar.number_laws names kind g.met.S.Spelling.kind_laws c.in_ok-push_header.ensures.names few_names system wide few small)

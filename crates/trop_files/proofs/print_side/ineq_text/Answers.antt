@@ -3,7 +3,7 @@ use Rattle.trop_theory.specs.Inequalities.{IsIn}
 use Rattle.trop_files.specs.Inequalities.{IsInequality}
 use Rattle.trop_files.specs.OnlyLines.{IsOnlyLine}
 use Rattle.trop_files.specs.Printed.{printed_inequality}
-use Rattle.trop_files.proofs.WrittenSystems.{inequality_read_back}
+use Rattle.trop_files.proofs.WrittenByNumber.{inequality_read_back}
 use Rattle.trop_files.proofs.print_side.ineq_text.Goals as goal
 
 pub returns-clause-read_back : goal.returns-clause-read_back
