@@ -5,3 +5,4 @@ pub mod MinPlusLaws
 pub mod Truth
 pub mod TruthLaws
 pub mod Words
+pub mod Stored

@@ -3,6 +3,7 @@ ghost use Rattle.trop_scalar.specs.Truth.{truth_ring, truth_numbering};
 ghost use Rattle.trop_scalar.specs.TruthLaws.{truth_laws, truth_number_laws, both_alike, true_false, false_true};
 
 use crate::Scalar;
+use smallvec::SmallVec;
 use std::marker::Model;
 
 /// A truth value: an element of the Boolean semiring, with "or" and "and" as its sum and product.
@@ -46,6 +47,8 @@ impl Default for Flag {
 }
 
 impl Scalar for Flag {
+    type Store = SmallVec<Flag, 8>;
+
     ghost ring = { truth_ring };
 
     ghost numbering = { truth_numbering };

@@ -2,11 +2,13 @@
 //! of those whose finite elements are the whole numbers, and the three instances.
 #![tactic(auto)]
 
+mod entries;
 mod flag;
 mod max_int;
 mod min_int;
 mod scalar;
 
+pub use entries::Entries;
 pub use flag::Flag;
 pub use max_int::MaxInt;
 pub use min_int::MinInt;

@@ -4,6 +4,7 @@ ghost use Rattle.std.specs.Cmp.{partial_equiv_from_equiv};
 ghost use Rattle.trop_scalar.specs.MaxPlusLaws.{max_number_laws, max_numeric_laws, max_laws, decides_same, same_is_equivalence};
 
 use crate::{Numeric, Scalar};
+use smallvec::SmallVec;
 use std::marker::Model;
 
 /// An element of the max-plus semiring: a whole number, or `-oo` below all of them, with the maximum as sum and
@@ -65,6 +66,8 @@ impl Eq for MaxInt {
 }
 
 impl Scalar for MaxInt {
+    type Store = SmallVec<MaxInt, 8>;
+
     ghost ring = { max_ring };
 
     ghost numbering = { max_numbering };

@@ -6,6 +6,7 @@ ghost use Rattle.trop_scalar.specs.MaxPlusLaws.{decides_same, same_is_equivalenc
 ghost use Rattle.trop_scalar.specs.MinPlusLaws.{min_number_laws, min_numeric_laws, min_laws};
 
 use crate::{Numeric, Scalar};
+use smallvec::SmallVec;
 use std::marker::Model;
 
 /// An element of the min-plus semiring: a whole number, or `oo` above all of them, with the minimum as sum and
@@ -68,6 +69,8 @@ impl Eq for MinInt {
 }
 
 impl Scalar for MinInt {
+    type Store = SmallVec<MinInt, 8>;
+
     ghost ring = { min_ring };
 
     ghost numbering = { max_numbering };

@@ -3,11 +3,16 @@ ghost use Rattle.trop_theory.specs.Vectors.{dot, row_size};
 ghost use Rattle.trop_theory.specs.Semiring.{Semiring, SemiringLaws, Le};
 ghost use Rattle.trop_theory.specs.Numbers.{Numbering, NumberLaws, NumericLaws};
 
+use crate::Entries;
+
 /// The elements of an idempotent semiring: `plus` picks one of its arguments, and each element other than the zero
 /// has an inverse for `times`. Contracts see an element as its value, which has no bound; one that a program holds
 /// has size at most 2^62. "Finite" means other than the zero. The default value fills places that hold no element yet;
 /// each instance has its zero there.
 pub trait Scalar: Copy + Eq + Default {
+    /// Where the entries of a row stand, up to 8 of them without memory.
+    type Store: Entries<Self>;
+
     /// The operations on values.
     ghost ring: { Semiring Self };
 
