@@ -1,4 +1,4 @@
-ghost use Rattle.std.specs.Prelude.{◌≡◌, ◌+◌, ◌^◌, ◌<◌, ◌≤◌, ℕ, length, slice_set, IfOk, refl};
+ghost use Rattle.std.specs.Prelude.{◌≡◌, ◌+◌, ◌^◌, ◌<◌, ◌≤◌, ℕ, length, slice_set, IsOk, IfOk, refl};
 ghost use Rattle.std.specs.Bool.{OnTrue, OnFalse};
 ghost use Rattle.std.specs.Cmp.{partial_equiv_from_equiv, partial_order_from_total};
 ghost use Rattle.std.specs.Ordering.{eq_by_cmp, as_partial_cmp};
@@ -12,16 +12,16 @@ use crate::entries::{compare_entries, join_all, normalise_all, put, scale_all};
 use std::alloc::{AllocError, Global};
 use std::cmp::Ordering;
 use std::marker::Model;
-use trop_scalar::Scalar;
+use trop_scalar::{Entries, Scalar};
 
 type NoMemory = AllocError;
 
-/// A vector of at most 64 elements.
+/// A vector of at most 64 elements. Up to 8 of them stand in the row itself, so that a short row needs no memory.
 ///
 /// Rows are ordered by the first entry that differs, in the semiring's order; a proper prefix stands first.
 #[derive(Drop)]
 pub struct Row<S: Scalar> {
-    entries: Vec<S>,
+    entries: S::Store,
 }
 
 impl<S: Scalar> Model for Row<S> {
@@ -29,51 +29,53 @@ impl<S: Scalar> Model for Row<S> {
 
     ghost Value = { List S };
 
-    ghost view = { λ a. a.entries.items };
+    ghost view = { λ a. S.Store.items a.entries };
 
-    ghost invariant = { λ a. length a.entries.items ≤ 64 };
+    ghost invariant = { λ a. length (S.Store.items a.entries) ≤ 64 };
 }
 
 impl<S: Scalar> Row<S> {
-    /// The row of these entries.
+    /// The row of these entries. Up to 8 need no memory.
     pub fn from_entries(alloc: Global, entries: &[S]) -> Result<Row<S>, NoMemory>
         requires { length entries.now ≤ 64 }
         ensures entries { IfOk result (λ row. row ≡ entries.now) }
+        ensures short { length entries.now ≤ 8 → IsOk result }
     {
         Ok(Row {
-            entries: Vec::from_slice(alloc, entries)?,
+            entries: S::Store::from_slice(alloc, entries)?,
         })
     }
 
-    /// The row of `n` zeros.
+    /// The row of `n` zeros. Up to 8 need no memory.
     pub fn bottom(alloc: Global, n: u32) -> Result<Row<S>, NoMemory>
         requires { n ≤ 64 }
         ensures entries { IfOk result (λ row. row ≡ bottom S.ring n) }
+        ensures short { n ≤ 8 → IsOk result }
     {
-        let mut entries = Vec::new(alloc);
-        for k in 0..n {
-            entries.push(S::zero())?;
-        }
-        Ok(Row { entries })
+        Ok(Row {
+            entries: S::Store::filled(alloc, n as usize, S::zero())?,
+        })
     }
 
-    /// The row of `n` entries with the one at `i` and the zero elsewhere.
+    /// The row of `n` entries with the one at `i` and the zero elsewhere. Up to 8 need no memory.
     pub fn unit(alloc: Global, n: u32, i: u32) -> Result<Row<S>, NoMemory>
         requires within { i < n }
         requires at_most { n ≤ 64 }
         ensures entries { IfOk result (λ row. row ≡ slice_set (bottom S.ring n) i S.ring.one) }
+        ensures short { n ≤ 8 → IsOk result }
     {
         let mut row = Row::bottom(alloc, n)?;
         row.set(i, S::one());
         Ok(row)
     }
 
-    /// A row of the same entries.
+    /// A row of the same entries. Up to 8 need no memory.
     pub fn copy(&self, alloc: Global) -> Result<Row<S>, NoMemory>
         ensures same { IfOk result (λ row. row ≡ self.now) }
+        ensures short { length self.now ≤ 8 → IsOk result }
     {
         Ok(Row {
-            entries: Vec::from_slice(alloc, self.entries.as_slice())?,
+            entries: S::Store::from_slice(alloc, self.entries.as_slice())?,
         })
     }
 
@@ -82,7 +84,7 @@ impl<S: Scalar> Row<S> {
         ensures len { result ≡ length self.now }
         ensures at_most { result ≤ 64 }
     {
-        self.entries.len() as u32
+        self.entries.as_slice().len() as u32
     }
 
     /// The entry at `i`.
