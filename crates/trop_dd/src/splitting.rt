@@ -10,7 +10,7 @@ use trop_scalar::Scalar;
 
 // A row by its place in a list, with its sum on one side of an inequality.
 #[derive(Clone, Copy)]
-pub struct Part<S: Scalar> {
+pub struct Part<S> {
     pub place: usize,
     pub sum: S,
 }
