@@ -81,3 +81,15 @@ fn step_cuts_the_line(rt: HostRuntime) -> Result<(), Fail> {
     assert!(rt; *out.get(1) == pair(alloc, MaxInt::of(0), MaxInt::of(3))?);
     Ok(())
 }
+
+// That a row of 8 entries is made is proved, whatever memory there is.
+#[test]
+fn rows_of_eight_need_no_memory(rt: HostRuntime) {
+    let alloc = rt.alloc();
+    let entries = [MaxInt::of(5); 8];
+    let row = Row::from_entries(alloc, &entries).unwrap();
+    let copy = row.copy(alloc).unwrap();
+    assert!(rt; copy == row && copy.len() == 8);
+    let unit = Row::<Flag>::unit(alloc, 8, 7).unwrap();
+    assert!(rt; unit.get(7).is_set());
+}
