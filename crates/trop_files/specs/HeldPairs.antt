@@ -5,7 +5,7 @@ use Rattle.trop_files.specs.declared.pair.AnyPair.{AnyPair}
 use Rattle.trop_files.specs.declared.pair.AnyPair.TheVariants as any
 use Rattle.trop_files.specs.PairFiles.{Two, TwoFile, MaxTwo, MinTwo, BoolTwo}
 
-abbrev pub held_two : {V : Type 0} → PairFile V → Two V
+abbrev pub held_two : {V Store : Type 0} → PairFile V Store → Two V
 held_two f = record { left = f.left.rows; right = f.right.rows }
 
 abbrev pub two_file_of : AnyPair → TwoFile

@@ -5,7 +5,7 @@ use Rattle.trop_files.specs.declared.place.AnyAt.{AnyAt}
 use Rattle.trop_files.specs.declared.place.AnyAt.TheVariants as any
 use Rattle.trop_files.specs.AtFiles.{Place, PlaceFile, MaxPlace, MinPlace, BoolPlace}
 
-abbrev pub held_place : {V : Type 0} → AtFile V → Place V
+abbrev pub held_place : {V Store : Type 0} → AtFile V Store → Place V
 held_place f = record { inequalities = f.system.inequalities; row = f.row }
 
 abbrev pub place_file_of : AnyAt → PlaceFile
