@@ -23,3 +23,6 @@ pub mod PairFileLaws
 pub mod PairBodies
 pub mod ReadSizes
 pub mod WrittenElements
+pub mod LineSteps
+pub mod LineFiles
+pub mod LineAnswers

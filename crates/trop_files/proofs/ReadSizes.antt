@@ -12,14 +12,14 @@ use Rattle.trop_grammar.specs.Grammar.{Repeated, Optional, LeftOut, Written}
 use Rattle.trop_grammar.specs.Lists.{Passes, next_or_end, Item, AreItems, AreSeparated}
 use Rattle.trop_text.specs.Pieces.{Piece}
 use Rattle.trop_text.specs.declared.fault.FaultKind.{FaultKind}
-use Rattle.trop_files.specs.Spelling.{RingKind, MaxKind, MinKind, BoolKind, sum_word}
+use Rattle.trop_files.specs.Spelling.{RingKind, MaxKind, MinKind, BoolKind, sum_word, IsTruthOnly, KindLaws}
 use Rattle.trop_files.specs.Words.{says, number, passed, is_input_end, is_digits, text_of}
 use Rattle.trop_text.specs.Digits.{number_of}
 use Rattle.trop_text.specs.declared.fault.FaultKind.TheVariants.{Syntax, NumberRange}
 use Rattle.std.proofs.lemmas.Bool.Decides.{leb_tells}
 use Rattle.trop_files.specs.Elements.{max_start, max_behind, min_behind, Behind, IsElement, IsNextEntry, IsRow}
 use Rattle.trop_files.specs.Generators.{generator_word, next_generator, IsGenerator, AreGenerators, greatest_number, AnyRows, GeneratorFile, IsGeneratorBody, SpellsGenerators}
-use Rattle.trop_files.specs.Inequalities.{known, variable, max_term, term_start, shift_sign, shift, term, IsShifted, IsNumericRest, truth_term, IsTermRest, IsTerm, side_start, between_terms, IsSideRest, with_term, with_terms, coefficients, inequality, IsInequalityRest}
+use Rattle.trop_files.specs.Inequalities.{known, variable, max_term, term_start, shift_sign, shift, term, IsShifted, IsNumericRest, truth_term, IsTermRest, IsTerm, side_start, between_terms, IsSideRest, with_term, with_terms, coefficients, inequality, IsInequalityRest, IsInequality}
 use Rattle.trop_files.specs.InequalityFiles.{next_inequality, AreInequalities, AnyInequalities, InequalityFile, IsInequalityBody, SpellsInequalities}
 use Rattle.trop_files.specs.declared.terms.Term.{Term}
 use Rattle.trop_files.specs.declared.terms.Start.{Start}
@@ -324,6 +324,9 @@ module _ {V : Type 0} {R : Semiring V} {N : Numbering V} {reversed : Bool} (laws
       let qs = side_rest_small kind bound names side.value side.back right.value (first_start_small kind bound names side.first.token side.value side.first.is) side.second in
       subst (λ i. inequality_size R i ≤ bound) (sym rest.second.is) (turned_small bound (length names + 1) turned.value e.value right.value ps qs)
 
+  pub line_small : (kind : RingKind) (names : List (List ℕ)) (us : List Piece) (p : Inequality V) → IsInequality kind R N greatest_number names us p → inequality_size R p ≤ greatest_number
+  line_small kind names us p e = inequality_small kind greatest_number names e.value e.back p (first_start_small kind greatest_number names e.first.token e.value e.first.is) e.second
+
   inequalities_small : (kind : RingKind) (names : List (List ℕ)) (ends : Piece → Bool) (before : List (Inequality V)) (us : List Piece) (system : List (Inequality V))
       → AreItems (Item (next_inequality kind R N names ends) (λ before. IsInequalityRest kind R N greatest_number names)) before us system → system_size R system ≤ greatest_number
   inequalities_small kind names ends before us [] are = omega arith
@@ -390,3 +393,20 @@ place_body_small h BoolKind us place b =
 -- the hypergraph at a file's vector can be looked at
 pub place_visible : (us : List Piece) (file : PlaceFile) → SpellsPlace us file → IsVisible file.place
 place_visible us file s = subst IsVisible (sym (ap (λ f. f.place) s.second.second.is)) (place_body_small s.value s.value.ring s.second.front s.second.value s.second.first)
+
+-- ---- single lines
+
+module _ {V : Type 0} {R : Semiring V} (laws : SemiringLaws R) where
+  truth_element : (a : V) → (a ≡ R.zero) ⊎ (a ≡ R.one) → R.size a ≤ 0
+  truth_element a (inl e) = subst (λ x. R.size x ≤ 0) (sym e) (subst (λ s. s ≤ 0) (sym laws.size_zero) (omega arith))
+  truth_element a (inr e) = subst (λ x. R.size x ≤ 0) (sym e) (subst (λ s. s ≤ 0) (sym laws.size_one) (omega arith))
+
+  truth_row : (N : Numbering V) → IsTruthOnly R N → (x : List V) → row_size R x ≤ 0
+  truth_row N only [] = omega arith
+  truth_row N only (a ∷ x) = let first = truth_element a (only.two a) in let more = truth_row N only x in omega arith
+
+  -- the numbers of a line are within the limit of a file
+  pub line_size : (kind : RingKind) (N : Numbering V) (reversed : Bool) (names : List (List ℕ)) (us : List Piece) (p : Inequality V) → KindLaws kind R N reversed → IsInequality kind R N greatest_number names us p → inequality_size R p ≤ 2 ^ 40
+  line_size MaxKind N reversed names us p kinds e = line_small laws kinds.0 MaxKind names us p e
+  line_size MinKind N reversed names us p kinds e = line_small laws kinds.0 MinKind names us p e
+  line_size BoolKind N reversed names us p kinds e = let left = truth_row N kinds p.left in let right = truth_row N kinds p.right in omega arith

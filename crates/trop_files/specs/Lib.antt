@@ -22,3 +22,5 @@ pub mod HeldPairs
 pub mod Sizes
 pub mod ByNumber
 pub mod OnlyLines
+pub mod InequalityLines
+pub mod HeldLines

@@ -28,10 +28,10 @@ use trop_scalar::{Flag, MaxInt, MinInt, Scalar};
 use trop_text::{FaultKind, Lexer, Names, Piece, Pieces, TextErr, is_name};
 
 /// The greatest size of a number in a file, 2^40.
-const GREATEST_NUMBER: u64 = 1 << 40;
+pub(crate) const GREATEST_NUMBER: u64 = 1 << 40;
 
 /// The most lines of inequalities in a file.
-const MOST_INEQUALITIES: u32 = 1024;
+pub(crate) const MOST_INEQUALITIES: u32 = 1024;
 
 /// A file of inequalities.
 #[derive(Drop)]
@@ -102,7 +102,7 @@ fn begins_line(ring: RingName, piece: Piece<'_>) -> bool
 
 // What ends the list, where no line may follow.
 #[tactic(auto, unfolding(trop_grammar::specs::Reading::token_at, crate::specs::InequalityFiles::past_inequalities))]
-fn no_inequality<'a>(
+pub(crate) fn no_inequality<'a>(
     ring: RingName,
     at: Pieces<'a>,
     end: ListEnd,

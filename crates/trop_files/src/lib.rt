@@ -8,6 +8,7 @@ mod elements;
 mod file_kind;
 mod generators;
 mod header;
+mod ineq_lines;
 mod inequalities;
 mod inequality;
 mod list_end;
@@ -24,6 +25,7 @@ mod told;
 mod words;
 
 pub use generators::{AnyGens, GenFile, read_gens};
+pub use ineq_lines::{AnyIneqLines, IneqLines, open_ineqs};
 pub use inequalities::{AnyIneqs, IneqFile, read_ineqs};
 pub use pair::{AnyPair, PairFile, read_pair};
 pub use place::{AnyAt, AtFile, read_at};

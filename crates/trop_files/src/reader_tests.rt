@@ -144,3 +144,53 @@ fn sides_that_are_turned_and_terms_that_are_added(rt: HostRuntime) -> Result<(),
     }
     Ok(())
 }
+
+// What the next five calls answer: whether an inequality came, or the refusal.
+fn five<S: Spelling>(alloc: Global, lines: &mut IneqLines<'_, S>) -> [Result<bool, TextErr>; 5] {
+    [
+        lines.next(alloc).map(|o| o.is_some()),
+        lines.next(alloc).map(|o| o.is_some()),
+        lines.next(alloc).map(|o| o.is_some()),
+        lines.next(alloc).map(|o| o.is_some()),
+        lines.next(alloc).map(|o| o.is_some()),
+    ]
+}
+
+fn first_five(alloc: Global, bytes: &[u8]) -> Result<[Result<bool, TextErr>; 5], TextErr>
+    requires { length bytes.now ≤ 2 ^ 31 }
+{
+    match open_ineqs(alloc, bytes)? {
+        AnyIneqLines::Max(mut lines) => Ok(five(alloc, &mut lines)),
+        AnyIneqLines::Min(mut lines) => Ok(five(alloc, &mut lines)),
+        AnyIneqLines::Bool(mut lines) => Ok(five(alloc, &mut lines)),
+    }
+}
+
+#[test]
+fn lines_one_by_one(rt: HostRuntime) -> Result<(), Fail> {
+    let alloc = rt.alloc();
+    let unknown = Err(TextErr::Fault(Fault::UnknownName { line: 6 }));
+    assert!(rt;
+        first_five(
+            alloc,
+            b"kind ineqs\nsemiring max\nvars x\nx <= 3\nx <= 3\nx + 2 <= 5\n".as_slice()
+        ) == Ok([Ok(true), Ok(true), Ok(true), Ok(false), Ok(false)])
+    );
+    assert!(rt;
+        first_five(
+            alloc,
+            b"kind ineqs\nsemiring min\nvars x\nx <= 0\n# none\nx <= z\nx <= 1\n".as_slice()
+        ) == Ok([Ok(true), unknown, unknown, unknown, unknown])
+    );
+    assert!(rt;
+        first_five(
+            alloc,
+            b"kind ineqs\nsemiring bool\nvars x y\n\nx => y".as_slice()
+        ) == Ok([Ok(true), Ok(false), Ok(false), Ok(false), Ok(false)])
+    );
+    assert!(rt;
+        first_five(alloc, b"kind ineqs\nsemiring max\nvars x x\n".as_slice())
+            == Err(TextErr::Fault(Fault::DuplicateName { line: 3 }))
+    );
+    Ok(())
+}

@@ -1,9 +1,12 @@
-ghost use Rattle.std.specs.Prelude.{◌≡◌, ◌++◌, OnOk, OnErr, IfOk, refl};
+ghost use Rattle.std.specs.Prelude.{◌≡◌, ◌++◌, List, OnOk, OnErr, IfOk, refl};
+ghost use Rattle.trop_theory.specs.Inequalities.{Inequality};
 ghost use Rattle.trop_files.specs.Spelling.{RingKind, MaxKind, MinKind, BoolKind, KindLaws, element_text, ring_word, sum_word, order_word};
 ghost use Rattle.std.specs.Fmt.{signed_decimal};
 ghost use Rattle.trop_scalar.specs.MaxPlusLaws.{max_numeric_laws};
 ghost use Rattle.trop_scalar.specs.MinPlusLaws.{min_numeric_laws};
-ghost use Rattle.trop_files.specs.SpellingLaws.{truth_only};
+ghost use Rattle.trop_files.specs.InequalityFiles.{AnyInequalities, MaxInequalities, MinInequalities, BoolInequalities};
+ghost use Rattle.trop_files.specs.InequalityLines.{AreBodies};
+ghost use Rattle.trop_files.specs.SpellingLaws.{truth_only, max_bodies, min_bodies, truth_bodies};
 
 use itoa::Buffer;
 use std::alloc::{AllocError, Global};
@@ -25,6 +28,9 @@ pub type NoMemory = AllocError;
 pub trait Spelling: Scalar {
     /// Which of the three it is.
     ghost kind: { RingKind };
+
+    /// Inequalities over it, among those of any file.
+    ghost inequalities: { List (Inequality Self) → AnyInequalities };
 
     /// Appends the element as it is printed. After want of memory the text is as before.
     fn push_element(self, text: &mut Vec<u8>) -> Result<(), NoMemory>
@@ -55,12 +61,19 @@ pub trait Spelling: Scalar {
     /// `max` and `min` have whole numbers as their finite elements, and the order is reversed for `min`; `bool` has just two
     /// elements.
     ghost kind_laws: { KindLaws kind Self.ring Self.numbering Self.REVERSED };
+
+    /// The lines behind a header that names it are inequalities over it.
+    ghost bodies: { AreBodies kind Self.ring Self.numbering inequalities };
 }
 
 impl Spelling for MaxInt {
     ghost kind = { MaxKind };
 
+    ghost inequalities = { MaxInequalities };
+
     ghost kind_laws = { (max_numeric_laws, refl) };
+
+    ghost bodies = { max_bodies };
 
     fn push_element(self, text: &mut Vec<u8>) -> Result<(), NoMemory> {
         match self.number() {
@@ -85,7 +98,11 @@ impl Spelling for MaxInt {
 impl Spelling for MinInt {
     ghost kind = { MinKind };
 
+    ghost inequalities = { MinInequalities };
+
     ghost kind_laws = { (min_numeric_laws, refl) };
+
+    ghost bodies = { min_bodies };
 
     fn push_element(self, text: &mut Vec<u8>) -> Result<(), NoMemory> {
         match self.number() {
@@ -110,7 +127,11 @@ impl Spelling for MinInt {
 impl Spelling for Flag {
     ghost kind = { BoolKind };
 
+    ghost inequalities = { BoolInequalities };
+
     ghost kind_laws = { truth_only };
+
+    ghost bodies = { truth_bodies };
 
     fn push_element(self, text: &mut Vec<u8>) -> Result<(), NoMemory> {
         match self.number() {
