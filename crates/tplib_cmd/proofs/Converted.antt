@@ -7,22 +7,15 @@ use Rattle.trop_theory.specs.Inequalities.{Inequality, Solves}
 use Rattle.trop_theory.specs.Combinations.{IsCombination}
 use Rattle.trop_theory.specs.Canonical.{IsOverLimit}
 use Rattle.trop_theory.proofs.Canonical.{IsCanonical-same}
-use Rattle.trop_dd.specs.Description.{Describes, IsStoppedBy}
-use Rattle.trop_dd.specs.declared.error.DdErr.{DdErr}
-use Rattle.trop_dd.specs.declared.error.DdErr.TheVariants as errors
+use Rattle.trop_dd.specs.Description.{Describes}
 use Rattle.trop_files.specs.Spelling.{RingKind}
 use Rattle.trop_files.specs.Printed.{printed_gens}
 use Rattle.tplib_cmd.specs.Answers.{IsConverted}
-use Rattle.tplib_cmd.specs.Replies.{IsUnconverted}
 use Rattle.tplib_cmd.proofs.Independent.{independent}
 
 -- no front of the system is over the limit
 abbrev pub IsWithin : {V : Type 0} → Semiring V → ℕ → List (Inequality V) → Type 0
 IsWithin R n system = (j : ℕ) → j ≤ length system → IsOverLimit R (Solves R n (take j system)) → ⊥
-
-pub stopped_here : {V : Type 0} (R : Semiring V) (names : List (List ℕ)) (n : ℕ) (system : List (Inequality V)) (e : DdErr) → n ≡ length names + 1 → IsStoppedBy R n system e → IsUnconverted R (length names + 1) system e
-stopped_here R names n system errors.NoMemory width h = tt
-stopped_here R names n system (errors.Limit k) width h = let known = subst (λ m. IsStoppedBy R m system (errors.Limit k)) width h in record { within = known.0; over = known.1; least = known.2 }
 
 module _ {V : Type 0} {R : Semiring V} (laws : SemiringLaws R) where
   converted_in : (kind : RingKind) (N : Numbering V) (names : List (List ℕ)) (system : List (Inequality V)) (rows : List (List V)) (text : List ℕ)

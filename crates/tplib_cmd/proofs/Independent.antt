@@ -1,16 +1,15 @@
 -- No row of a canonical list is a combination of the others.
-use Rattle.std.proofs.Common.{◌≡◌, ◌+◌, ◌<◌, ◌≤◌, ℕ, List, length, ⊎_elim, sym, ap, ◌∙◌, subst, get_or, arith}
+use Rattle.std.proofs.Common.{◌≡◌, ◌+◌, ◌<◌, ℕ, List, length, ⊎_elim, sym, ◌∙◌, subst, get_or, arith}
 use Rattle.std.specs.Prelude.{All, AllPairs, Contains, remove}
 use Rattle.std.proofs.lemmas.Bool.{cases_lt}
 use Rattle.std.proofs.lemmas.List.{get_or_default}
 use Rattle.std.proofs.lemmas.List.Edits.{get_or-remove_below, get_or-remove_above, length-remove}
 use Rattle.trop_theory.specs.Semiring.{Semiring, SemiringLaws}
 use Rattle.trop_theory.specs.Normal.{IsNormal}
-use Rattle.trop_theory.specs.Extreme.{IsExtreme}
 use Rattle.trop_theory.specs.Combinations.{IsCombination, AreIndependent}
 use Rattle.trop_theory.specs.Canonical.{RowBelow, IsCanonical}
 use Rattle.trop_theory.proofs.Distinct.{row_below_itself}
-use Rattle.trop_theory.proofs.Canonical.{All-remove, Contains-extreme, IsExtreme-same, IsCanonical-same, IsCombination-remove}
+use Rattle.trop_theory.proofs.Canonical.{All-remove, Contains-extreme, IsExtreme-same, IsCombination-remove}
 
 module _ {V : Type 0} {R : Semiring V} (laws : SemiringLaws R) (n : ℕ) where
   -- a row of an ascending list is not among the others

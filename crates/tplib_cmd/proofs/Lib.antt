@@ -4,3 +4,4 @@ pub mod Ending
 pub mod Independent
 pub mod Converted
 pub mod Looked
+pub mod LineByLine

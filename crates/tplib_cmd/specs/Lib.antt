@@ -4,3 +4,4 @@ pub mod Commands
 pub mod Answers
 pub mod Ends
 pub mod Replies
+pub mod ByLines

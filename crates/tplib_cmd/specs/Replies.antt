@@ -5,12 +5,7 @@ use Rattle.tplib_cmd.specs.declared.status.Status.{Status}
 use Rattle.tplib_cmd.specs.declared.status.Status.TheVariants.{Done, No}
 use Rattle.tplib_cmd.specs.declared.answer.Refusal.{Refusal}
 use Rattle.tplib_cmd.specs.declared.answer.Refusal.TheVariants.{Text, Limit, Range, NoMemory}
-use Rattle.tplib_cmd.specs.Answers.{Value, Spells, HasFault, HasLimit, HasRange, IsRowsStop, StopsFile}
-use Rattle.trop_theory.specs.Semiring.{Semiring}
-use Rattle.trop_theory.specs.Inequalities.{Inequality}
-use Rattle.trop_files.specs.InequalityFiles.{AnyInequalities}
-use Rattle.trop_dd.specs.declared.error.DdErr.{DdErr}
-use Rattle.trop_dd.specs.declared.error.DdErr.TheVariants as errors
+use Rattle.tplib_cmd.specs.Answers.{Value, Spells, HasFault, HasLimit, HasRange}
 
 abbrev pub status_of : Bool → Status
 status_of true = Done
@@ -22,12 +17,3 @@ IsRefused command bytes (Text fault) = HasFault command bytes fault
 IsRefused command bytes (Limit stop) = (value : Value) × Spells command bytes value × HasLimit command value stop
 IsRefused command bytes (Range stop) = (value : Value) × Spells command bytes value × HasRange command value stop
 IsRefused command bytes NoMemory = Unit {0}
-
--- why a system was not converted
-abbrev pub IsUnconverted : {V : Type 0} → Semiring V → ℕ → List (Inequality V) → DdErr → Type 0
-IsUnconverted R n system (errors.Limit k) = IsRowsStop R n system k
-IsUnconverted R n system errors.NoMemory = Unit {0}
-
-abbrev pub IsUnconvertedFile : List (List ℕ) → AnyInequalities → DdErr → Type 0
-IsUnconvertedFile names system (errors.Limit k) = StopsFile names system k
-IsUnconvertedFile names system errors.NoMemory = Unit {0}

@@ -1,17 +1,18 @@
-ghost use Rattle.std.specs.Prelude.{◌≡◌, ◌+◌, ◌≤◌, ◌^◌, length, IfOk, IfErr};
-ghost use Rattle.trop_theory.specs.Inequalities.{system_size};
+ghost use Rattle.std.specs.Prelude.{◌≡◌, ◌+◌, ◌≤◌, ◌^◌, ℕ, true, [], length, take, OnOk, IfOk, IfErr};
+ghost use Rattle.trop_theory.specs.Inequalities.{Solves};
+ghost use Rattle.trop_theory.specs.Canonical.{IsOverLimit};
+ghost use Rattle.trop_dd.specs.Description.{Describes};
 ghost use Rattle.trop_words.specs.declared.command.Command.TheVariants.{Ext};
-ghost use Rattle.trop_files.specs.HeldInequalities.{inequality_file_of, IsWideIneqs};
-ghost use Rattle.trop_files.specs.Sizes.{IsConvertible};
-ghost use Rattle.tplib_cmd.specs.Answers.{IsConverted, IsConvertedFile};
+ghost use Rattle.tplib_cmd.specs.Answers.{IsRowsStop};
+ghost use Rattle.tplib_cmd.specs.ByLines.{SpellsLines, IsConvertedText, IsUnconvertedText};
 ghost use Rattle.tplib_cmd.specs.Ends.{IsAnswered};
-ghost use Rattle.tplib_cmd.specs.Replies.{IsRefused, status_of, IsUnconverted, IsUnconvertedFile};
+ghost use Rattle.tplib_cmd.specs.Replies.{IsRefused, status_of};
 
 use crate::Stop;
 use crate::answer::{Refusal, Reply};
 use std::alloc::Global;
-use trop_dd::{DdErr, extreme_rows};
-use trop_files::{AnyIneqs, IneqFile, Spelling, print_gens, read_ineqs};
+use trop_dd::{Dd, DdErr};
+use trop_files::{AnyIneqLines, IneqLines, Spelling, open_ineqs, print_gens};
 use trop_hyper::Looks;
 use trop_text::TextErr;
 
@@ -21,44 +22,79 @@ pub(crate) fn convert_file(alloc: Global, bytes: &[u8]) -> Result<Reply, Refusal
     ensures ok { IfOk result (λ reply. IsAnswered Ext bytes.now (status_of reply.yes) reply.text.items) }
     ensures refused { IfErr result (IsRefused Ext bytes.now) }
 {
-    let file = match read_ineqs(alloc, bytes) {
-        Ok(file) => file,
-        Err(TextErr::Fault(fault)) => return Err(Refusal::Text(fault)),
-        Err(TextErr::NoMemory) => return Err(Refusal::NoMemory),
-    };
-    match converted_file(alloc, &file) {
-        Ok(text) => Ok(Reply { yes: true, text }),
-        Err(DdErr::Limit(count)) => Err(Refusal::Limit(Stop::Rows(count))),
-        Err(DdErr::NoMemory) => Err(Refusal::NoMemory),
+    match open_ineqs(alloc, bytes) {
+        Ok(AnyIneqLines::Max(mut lines)) => converted(alloc, &mut lines),
+        Ok(AnyIneqLines::Min(mut lines)) => converted(alloc, &mut lines),
+        Ok(AnyIneqLines::Bool(mut lines)) => converted(alloc, &mut lines),
+        Err(TextErr::Fault(fault)) => Err(Refusal::Text(fault)),
+        Err(TextErr::NoMemory) => Err(Refusal::NoMemory),
     }
 }
 
-fn converted_file(alloc: Global, file: &AnyIneqs) -> Result<Vec<u8>, DdErr>
-    requires width { IsWideIneqs file.now }
-    requires sizes { IsConvertible (inequality_file_of file.now).inequalities }
-    ensures ok { IfOk result (λ text. IsConvertedFile (inequality_file_of file.now).names (inequality_file_of file.now).inequalities text.items) }
-    ensures stopped { IfErr result (IsUnconvertedFile (inequality_file_of file.now).names (inequality_file_of file.now).inequalities) }
+// The file of the solutions of the inequalities, line by line.
+fn converted<S: Spelling>(alloc: Global, lines: &mut IneqLines<'_, S>) -> Result<Reply, Refusal>
+    requires { lines.old.given ≡ [] }
+    ensures ok { IfOk result (λ reply. IsConvertedText S.kind S.ring S.numbering S.inequalities lines.old.bytes lines.old.names reply.text.items) }
+    ensures yes { IfOk result (λ reply. reply.yes ≡ true) }
+    ensures refused { IfErr result (IsUnconvertedText S.ring S.inequalities lines.old.bytes lines.old.names) }
 {
-    match file {
-        AnyIneqs::Max(file) => converted(alloc, file),
-        AnyIneqs::Min(file) => converted(alloc, file),
-        AnyIneqs::Bool(file) => converted(alloc, file),
+    let n = lines.names().len() + 1;
+    let Ok(mut dd) = Dd::new(alloc, n) else {
+        return Err(Refusal::NoMemory);
+    };
+    if let Err(refusal) = push_lines(alloc, lines, &mut dd) {
+        return Err(refusal);
+    }
+    match print_gens(alloc, lines.names(), dd.rows()) {
+        Ok(text) => Ok(Reply { yes: true, text }),
+        Err(_) => Err(Refusal::NoMemory),
     }
 }
 
-fn converted<S: Spelling>(alloc: Global, file: &IneqFile<S>) -> Result<Vec<u8>, DdErr>
-    requires width { file.now.system.n ≡ length file.now.names + 1 }
-    requires sizes { system_size S.ring file.now.system.inequalities ≤ 2 ^ 49 }
-    ensures ok { IfOk result (λ text. IsConverted S.kind S.ring S.numbering file.now.names file.now.system.inequalities text.items) }
-    ensures stopped { IfErr result (IsUnconverted S.ring (length file.now.names + 1) file.now.system.inequalities) }
+// Pushes the inequalities of all lines, one after another, to the whole space.
+fn push_lines<S: Spelling>(
+    alloc: Global,
+    lines: &mut IneqLines<'_, S>,
+    dd: &mut Dd<S>,
+) -> Result<(), Refusal>
+    requires first { lines.old.given ≡ [] }
+    requires empty { dd.old.system ≡ [] }
+    requires described { Describes S.ring dd.old.n [] dd.old.rows }
+    requires width { dd.old.n ≡ length lines.old.names + 1 }
+    ensures ok { OnOk result (SpellsLines S.inequalities lines.old.bytes lines.old.names dd.new.system) }
+    ensures within { OnOk result ((j : ℕ) → j ≤ length dd.new.system → IsOverLimit S.ring (Solves S.ring dd.old.n (take j dd.new.system)) → ⊥) }
+    ensures refused { IfErr result (IsUnconvertedText S.ring S.inequalities lines.old.bytes lines.old.names) }
+    ensures width { OnOk result (dd.new.n ≡ dd.old.n) }
+    ensures names { OnOk result (lines.new.names ≡ lines.old.names) }
 {
     let mut looks = Looks::new();
-    let rows = match extreme_rows(alloc, &file.system, &mut looks) {
-        Ok(rows) => rows,
-        Err(e) => return Err(e),
-    };
-    match print_gens(alloc, &file.names, &rows) {
-        Ok(text) => Ok(text),
-        Err(_) => Err(DdErr::NoMemory),
+    'lines: loop {
+        let ineq = match lines.next(alloc) {
+            Ok(Some(ineq)) => ineq,
+            Ok(None) => return Ok(()),
+            Err(TextErr::Fault(fault)) => return Err(Refusal::Text(fault)),
+            Err(TextErr::NoMemory) => return Err(Refusal::NoMemory),
+        };
+        match dd.push(alloc, ineq, &mut looks) {
+            Ok(()) => {}
+            Err(DdErr::Limit(count)) => return Err(stopped(alloc, lines, count)),
+            Err(DdErr::NoMemory) => return Err(Refusal::NoMemory),
+        }
+    }
+}
+
+// The refusal where the first inequalities, as many as `count`, have too many extreme rows: a fault of a later line goes
+// before it.
+fn stopped<S: Spelling>(alloc: Global, lines: &mut IneqLines<'_, S>, count: u32) -> Refusal
+    requires { IsRowsStop S.ring (length lines.old.names + 1) lines.old.given count }
+    ensures { IsUnconvertedText S.ring S.inequalities lines.old.bytes lines.old.names result }
+{
+    'rest: loop {
+        match lines.next(alloc) {
+            Ok(Some(_)) => {}
+            Ok(None) => return Refusal::Limit(Stop::Rows(count)),
+            Err(TextErr::Fault(fault)) => return Refusal::Text(fault),
+            Err(TextErr::NoMemory) => return Refusal::NoMemory,
+        }
     }
 }

@@ -1,17 +1,39 @@
 use Rattle.std.proofs.Common.{subst}
-use Rattle.trop_files.specs.HeldInequalities.{inequality_file_of}
-use Rattle.trop_files.proofs.ReadSizes.{inequalities_convertible}
-use Rattle.tplib_cmd.specs.Answers.{Inequalities}
-use Rattle.tplib_cmd.specs.Replies.{IsUnconvertedFile}
+use Rattle.trop_scalar.specs.MaxPlus.{max_ring, max_numbering}
+use Rattle.trop_scalar.specs.MinPlus.{min_ring}
+use Rattle.trop_scalar.specs.Truth.{truth_ring, truth_numbering}
+use Rattle.trop_files.specs.Spelling.{MaxKind, MinKind, BoolKind}
+use Rattle.trop_files.specs.InequalityFiles.{MaxInequalities, MinInequalities, BoolInequalities}
+use Rattle.trop_files.specs.HeldLines.{IsOpenedAny}
+use Rattle.tplib_cmd.proofs.LineByLine.{answered, refused}
 use Rattle.tplib_cmd.proofs.ext.convert_file.Goals as goal
 
-pub converted_file-requires-clause-sizes : goal.converted_file-requires-clause-sizes
-converted_file-requires-clause-sizes c = inequalities_convertible _ _ c.in-Ok.ensures.found
+pub returns-in-Ok-Max-clause-ok : goal.returns-in-Ok-Max-clause-ok
+returns-in-Ok-Max-clause-ok c =
+    let opened = subst (IsOpenedAny c.args.bytes.now) c.in-Ok-Max.field-0-is c.in-Ok-Max.ensures.opened in
+    answered MaxKind max_ring max_numbering MaxInequalities c.in-Ok-Max.lines.bytes c.args.bytes.now c.in-Ok-Max.lines.names opened.bytes (λ system text h. h) c.converted.result c.converted.ensures.ok c.converted.ensures.yes
 
-pub returns-in-Ok-converted_file-clause-ok : goal.returns-in-Ok-converted_file-clause-ok
-returns-in-Ok-converted_file-clause-ok c = (Inequalities (inequality_file_of c.in-Ok.file), c.in-Ok.ensures.found, c.in-Ok-converted_file.ensures.ok)
+pub returns-in-Ok-Max-clause-refused : goal.returns-in-Ok-Max-clause-refused
+returns-in-Ok-Max-clause-refused c =
+    let opened = subst (IsOpenedAny c.args.bytes.now) c.in-Ok-Max.field-0-is c.in-Ok-Max.ensures.opened in
+    refused MaxKind max_ring max_numbering MaxInequalities c.in-Ok-Max.lines.bytes c.args.bytes.now c.in-Ok-Max.lines.names opened.bytes (λ system k h. h) c.converted.result c.converted.ensures.refused
 
-pub returns-in-Err-Limit-clause-refused : goal.returns-in-Err-Limit-clause-refused
-returns-in-Err-Limit-clause-refused c =
-    let file = inequality_file_of c.in-Ok.file in
-    (Inequalities file, c.in-Ok.ensures.found, subst (IsUnconvertedFile file.names file.inequalities) c.in-Err-Limit.field-0-is c.in-Err-Limit.ensures.stopped)
+pub returns-in-Ok-Min-clause-ok : goal.returns-in-Ok-Min-clause-ok
+returns-in-Ok-Min-clause-ok c =
+    let opened = subst (IsOpenedAny c.args.bytes.now) c.in-Ok-Min.field-0-is c.in-Ok-Min.ensures.opened in
+    answered MinKind min_ring max_numbering MinInequalities c.in-Ok-Min.lines.bytes c.args.bytes.now c.in-Ok-Min.lines.names opened.bytes (λ system text h. h) c.converted-in-Ok-Min.result c.converted-in-Ok-Min.ensures.ok c.converted-in-Ok-Min.ensures.yes
+
+pub returns-in-Ok-Min-clause-refused : goal.returns-in-Ok-Min-clause-refused
+returns-in-Ok-Min-clause-refused c =
+    let opened = subst (IsOpenedAny c.args.bytes.now) c.in-Ok-Min.field-0-is c.in-Ok-Min.ensures.opened in
+    refused MinKind min_ring max_numbering MinInequalities c.in-Ok-Min.lines.bytes c.args.bytes.now c.in-Ok-Min.lines.names opened.bytes (λ system k h. h) c.converted-in-Ok-Min.result c.converted-in-Ok-Min.ensures.refused
+
+pub returns-in-Ok-Bool-clause-ok : goal.returns-in-Ok-Bool-clause-ok
+returns-in-Ok-Bool-clause-ok c =
+    let opened = subst (IsOpenedAny c.args.bytes.now) c.in-Ok-Bool.field-0-is c.in-Ok-Bool.ensures.opened in
+    answered BoolKind truth_ring truth_numbering BoolInequalities c.in-Ok-Bool.lines.bytes c.args.bytes.now c.in-Ok-Bool.lines.names opened.bytes (λ system text h. h) c.converted-in-Ok-Bool.result c.converted-in-Ok-Bool.ensures.ok c.converted-in-Ok-Bool.ensures.yes
+
+pub returns-in-Ok-Bool-clause-refused : goal.returns-in-Ok-Bool-clause-refused
+returns-in-Ok-Bool-clause-refused c =
+    let opened = subst (IsOpenedAny c.args.bytes.now) c.in-Ok-Bool.field-0-is c.in-Ok-Bool.ensures.opened in
+    refused BoolKind truth_ring truth_numbering BoolInequalities c.in-Ok-Bool.lines.bytes c.args.bytes.now c.in-Ok-Bool.lines.names opened.bytes (λ system k h. h) c.converted-in-Ok-Bool.result c.converted-in-Ok-Bool.ensures.refused

@@ -1,0 +1,128 @@
+-- A system that grows line by line.
+use Rattle.std.proofs.Common.{◌≡◌, ◌<◌, ◌≤◌, ◌+◌, ◌⊎◌, inl, inr, ℕ, true, Option, Some, None, Result, Ok, Err, List, [], ◌∷◌, ◌++◌, length, take, sym, ap, subst, ◌∙◌, arith, length-append}
+use Rattle.std.specs.Prelude.{IfOk, IfErr, IfNone}
+use Rattle.std.proofs.lemmas.Bool.{cases_lt}
+use Rattle.std.proofs.lemmas.List.{take-append-le, append-nil}
+use Rattle.std.proofs.Math.Seq.{take-append_seam}
+use Rattle.trop_theory.specs.Semiring.{Semiring}
+use Rattle.trop_theory.specs.Numbers.{Numbering}
+use Rattle.trop_theory.specs.Inequalities.{Inequality, Solves}
+use Rattle.trop_theory.specs.Canonical.{IsOverLimit}
+use Rattle.trop_text.specs.Pieces.{Piece, pieces_of}
+use Rattle.trop_text.specs.declared.fault.Fault.{Fault}
+use Rattle.trop_text.specs.declared.fault.TextErr.{TextErr}
+use Rattle.trop_text.specs.declared.fault.TextErr.TheVariants as texts
+use Rattle.trop_files.specs.Spelling.{RingKind}
+use Rattle.trop_files.specs.Generators.{greatest_number}
+use Rattle.trop_files.specs.Inequalities.{IsInequality}
+use Rattle.trop_files.specs.InequalityFiles.{AnyInequalities, SpellsInequalities, inequality_file_at}
+use Rattle.trop_files.specs.InequalityLines.{LineReader, GivesLine, GivesNext, file_given}
+use Rattle.trop_files.specs.Outcome.{IsFault, IsRefusal}
+use Rattle.trop_words.specs.declared.command.Command.TheVariants.{Ext}
+use Rattle.tplib_cmd.specs.declared.answer.Refusal.{Refusal}
+use Rattle.tplib_cmd.specs.declared.answer.Refusal.TheVariants.{Text, Limit, Range, NoMemory}
+use Rattle.tplib_cmd.specs.declared.answer.Reply.{Reply}
+use Rattle.tplib_cmd.specs.declared.status.Stop.TheVariants.{Rows}
+use Rattle.tplib_cmd.specs.Answers.{Inequalities, IsRowsStop, IsConverted, IsConvertedFile, StopsFile}
+use Rattle.tplib_cmd.specs.ByLines.{SpellsLines, IsConvertedText, IsUnconvertedText}
+use Rattle.tplib_cmd.specs.Ends.{IsAnswered}
+use Rattle.tplib_cmd.specs.Replies.{IsRefused, status_of}
+use Rattle.tplib_cmd.proofs.Converted.{IsWithin}
+
+take-whole : {X : Type 0} (n : ℕ) (xs : List X) → n ≡ length xs → take n xs ≡ xs
+take-whole {X} n xs e = ap (λ m. take m xs) e ∙ ap (take (length xs)) (sym (append-nil xs)) ∙ take-append_seam xs []
+
+module _ {V : Type 0} (R : Semiring V) (n : ℕ) where
+  abbrev Over : List (Inequality V) → Type 0
+  Over system = IsOverLimit R (Solves R n system)
+
+  same_front : (xs : List (Inequality V)) (x : Inequality V) (j : ℕ) → j ≤ length xs → take j (xs ++ x ∷ []) ≡ take j xs
+  same_front xs x j within = take-append-le j xs (x ∷ []) within
+
+  -- a stop stays one with a further inequality
+  pub stop_more : (xs : List (Inequality V)) (x : Inequality V) (k : ℕ) → IsRowsStop R n xs k → IsRowsStop R n (xs ++ x ∷ []) k
+  stop_more xs x k h = record {
+    within = omega (arith, h.within, length-append xs (x ∷ []));
+    over = subst Over (sym (same_front xs x k h.within)) h.over;
+    least = λ j below over. h.least j below (subst Over (same_front xs x j (omega (arith, h.within, below))) over);
+  }
+
+  within_at : (xs : List (Inequality V)) (x : Inequality V) → IsWithin R n xs → (Over (xs ++ x ∷ []) → ⊥) → (j : ℕ) → j ≤ length (xs ++ x ∷ []) → (j < length xs + 1) ⊎ (length xs + 1 ≤ j) → Over (take j (xs ++ x ∷ [])) → ⊥
+  within_at xs x h last j le (inl lt) over = h j (omega arith) (subst Over (same_front xs x j (omega arith)) over)
+  within_at xs x h last j le (inr past) over = last (subst Over (take-whole j (xs ++ x ∷ []) (omega (arith, length-append xs (x ∷ [])))) over)
+
+  -- every front stays within the limit with one more inequality
+  pub within_next : (xs : List (Inequality V)) (x : Inequality V) → IsWithin R n xs → (Over (xs ++ x ∷ []) → ⊥) → IsWithin R n (xs ++ x ∷ [])
+  within_next xs x h last j le over = within_at xs x h last j le (cases_lt j (length xs + 1)) over
+
+  -- the first stop is at the inequality that was refused
+  pub stop_here : (xs : List (Inequality V)) (x : Inequality V) (k : ℕ) → IsWithin R n xs → k ≡ length (xs ++ x ∷ []) → Over (xs ++ x ∷ []) → IsRowsStop R n (xs ++ x ∷ []) k
+  stop_here xs x k h e over = record {
+    within = omega (arith, e);
+    over = subst Over (sym (take-whole k (xs ++ x ∷ []) e)) over;
+    least = λ j below over. h j (omega (arith, e, below, length-append xs (x ∷ []))) (subst Over (same_front xs x j (omega (arith, e, below, length-append xs (x ∷ [])))) over);
+  }
+
+-- ---- one line
+
+module _ {V : Type 0} {kind : RingKind} {R : Semiring V} {N : Numbering V} {old new : LineReader V} {x : Inequality V} (h : GivesLine kind R N old new x) where
+  line_begins : (line : List Piece) → IsInequality kind R N greatest_number old.names line x → 1 ≤ length line
+  line_begins line e = let whole = ap length e.whole in let first = ap length e.first.whole in omega (arith, whole, first, length-append e.front e.back)
+
+  -- fewer pieces are left
+  pub left_falls : length new.left < length old.left
+  left_falls = let some = line_begins h.line h.is in omega (arith, some, ap length h.whole, length-append h.line new.left)
+
+  pub given_is : new.given ≡ old.given ++ x ∷ []
+  given_is = ap (λ r. r.given) h.given
+
+  pub names_stay : new.names ≡ old.names
+  names_stay = ap (λ r. r.names) h.given
+
+  pub bytes_stay : new.bytes ≡ old.bytes
+  bytes_stay = ap (λ r. r.bytes) h.given
+
+-- where no line is left, the bytes spell what was given
+pub found_at : {V : Type 0} (any : List (Inequality V) → AnyInequalities) (old : LineReader V) (bytes : List ℕ) (names : List (List ℕ)) (o : Option (Inequality V)) → old.bytes ≡ bytes → old.names ≡ names → o ≡ None
+    → IfNone o (SpellsInequalities (pieces_of old.bytes) (file_given any old)) → SpellsLines any bytes names old.given
+found_at any old bytes names None b n e h = subst (λ m. SpellsLines any bytes m old.given) n (subst (λ z. SpellsLines any z old.names old.given) b h)
+found_at any old bytes names (Some x) b n e h = absurd cc
+
+-- a fault of a line is that of the bytes
+pub fault_at : (before bytes : List ℕ) (told : TextErr) (f : Fault) → before ≡ bytes → told ≡ texts.Fault f → IsRefusal SpellsInequalities inequality_file_at before told → IsFault SpellsInequalities inequality_file_at bytes f
+fault_at before bytes told f b e h = subst (λ z. IsFault SpellsInequalities inequality_file_at z f) b (subst (IsRefusal SpellsInequalities inequality_file_at before) e h)
+
+-- the inequality of a line that was given
+pub line_given : {V : Type 0} (kind : RingKind) (R : Semiring V) (N : Numbering V) (old new : LineReader V) (o : Option (Inequality V)) (x : Inequality V) → o ≡ Some x → GivesNext kind R N old new o → GivesLine kind R N old new x
+line_given kind R N old new o x e h = subst (GivesNext kind R N old new) e h
+
+-- what was pushed is the system so far and the inequality of the line
+pub stop_line : {V : Type 0} (R : Semiring V) (n m w k : ℕ) (system given new : List (Inequality V)) (x : Inequality V) → IsWithin R n system → system ≡ given → new ≡ given ++ x ∷ [] → m ≡ n → n ≡ w
+    → k ≡ length (system ++ x ∷ []) → IsOverLimit R (Solves R m (system ++ x ∷ [])) → IsRowsStop R w new k
+stop_line R n m w k system given new x within same grown width wide count over =
+    subst (λ z. IsRowsStop R z new k) wide
+    (subst (λ z. IsRowsStop R n z k) (ap (λ z. z ++ x ∷ []) same ∙ sym grown) (stop_here R n system x k within count (subst (λ z. IsOverLimit R (Solves R z (system ++ x ∷ []))) width over)))
+
+pub within_line : {V : Type 0} (R : Semiring V) (n m : ℕ) (system new : List (Inequality V)) (x : Inequality V) → IsWithin R n system → new ≡ system ++ x ∷ [] → m ≡ n → (IsOverLimit R (Solves R m (system ++ x ∷ [])) → ⊥) → IsWithin R n new
+within_line R n m system new x within grown width last = subst (IsWithin R n) (sym grown) (within_next R n system x within (subst (λ z. IsOverLimit R (Solves R z (system ++ x ∷ [])) → ⊥) width last))
+
+-- ---- the answer
+
+module _ {V : Type 0} (kind : RingKind) (R : Semiring V) (N : Numbering V) (any : List (Inequality V) → AnyInequalities) (before bytes : List ℕ) (names : List (List ℕ)) (same : before ≡ bytes) where
+  pub answered : ((system : List (Inequality V)) (text : List ℕ) → IsConverted kind R N names system text → IsConvertedFile names (any system) text) → (r : Result Reply Refusal)
+      → IfOk r (λ reply. IsConvertedText kind R N any before names reply.text.items) → IfOk r (λ reply. reply.yes ≡ true) → IfOk r (λ reply. IsAnswered Ext bytes (status_of reply.yes) reply.text.items)
+  answered to (Ok reply) h ok =
+      subst (λ y. IsAnswered Ext bytes (status_of y) reply.text.items) (sym ok)
+      (Inequalities (record { names = names; inequalities = any h.system }), subst (λ z. SpellsLines any z names h.system) same h.spelled, to h.system reply.text.items h.converted)
+  answered to (Err refusal) h ok = tt
+
+  refused_for : ((system : List (Inequality V)) (k : ℕ) → IsRowsStop R (length names + 1) system k → StopsFile names (any system) k) → (refusal : Refusal) → IsUnconvertedText R any before names refusal → IsRefused Ext bytes refusal
+  refused_for to (Text f) h = subst (λ z. IsFault SpellsInequalities inequality_file_at z f) same h
+  refused_for to (Limit (Rows k)) h = (Inequalities (record { names = names; inequalities = any h.system }), subst (λ z. SpellsLines any z names h.system) same h.spelled, to h.system k h.stopped)
+  refused_for to (Limit stop) h = absurd h
+  refused_for to (Range stop) h = absurd h
+  refused_for to NoMemory h = tt
+
+  pub refused : ((system : List (Inequality V)) (k : ℕ) → IsRowsStop R (length names + 1) system k → StopsFile names (any system) k) → (r : Result Reply Refusal) → IfErr r (IsUnconvertedText R any before names) → IfErr r (IsRefused Ext bytes)
+  refused to (Ok reply) h = tt
+  refused to (Err refusal) h = refused_for to refusal h
