@@ -26,3 +26,6 @@ pub mod WrittenElements
 pub mod LineSteps
 pub mod LineFiles
 pub mod LineAnswers
+pub mod WrittenGenerators
+pub mod WrittenNumbers
+pub mod WrittenFiles

@@ -24,7 +24,7 @@ use Rattle.trop_files.specs.Spelling.{RingKind, MaxKind, MinKind, BoolKind, sum_
 use Rattle.trop_files.specs.declared.terms.Term.{Term}
 use Rattle.trop_files.specs.declared.terms.Start.{Start}
 use Rattle.trop_files.specs.declared.terms.Start.TheVariants.{Constant, Minus, Variable}
-use Rattle.trop_files.specs.Words.{says, number}
+use Rattle.trop_files.specs.Words.{says}
 use Rattle.trop_files.specs.Elements.{max_behind, min_behind}
 use Rattle.trop_files.specs.Inequalities.{term_start, max_term, variable, shift, shift_sign, term, IsShifted, IsTermRest, IsTerm, side_start, IsSideRest, IsSide}
 use Rattle.trop_files.proofs.NameWords.{false_if, not_named}

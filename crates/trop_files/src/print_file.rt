@@ -1,12 +1,13 @@
 ghost use Rattle.std.specs.Prelude.{◌≡◌, ◌≤◌, ◌+◌, ◌++◌, length, OnOk, IfOk, All};
 ghost use Rattle.trop_theory.specs.Normal.{IsNormal};
+ghost use Rattle.trop_theory.specs.Vectors.{rows_size};
 ghost use Rattle.trop_theory.specs.Inequalities.{system_size};
 ghost use Rattle.trop_text.specs.Names.{AreNames};
 ghost use Rattle.trop_text.specs.Pieces.{pieces_of};
 ghost use Rattle.trop_files.specs.Printed.{numbers, after_spaces, printed_header, generator_line, printed_gens, printed_ineqs};
-ghost use Rattle.trop_files.specs.Generators.{greatest_number};
+ghost use Rattle.trop_files.specs.Generators.{greatest_number, most_generators, SpellsGenerators};
 ghost use Rattle.trop_files.specs.InequalityFiles.{most_inequalities, SpellsInequalities};
-ghost use Rattle.trop_files.specs.ByNumber.{file_by_number};
+ghost use Rattle.trop_files.specs.ByNumber.{generators_by_number, file_by_number};
 
 use crate::print_row::push_row;
 use crate::print_side::push_inequality;
@@ -15,7 +16,8 @@ use std::alloc::Global;
 use trop_row::{Gens, System};
 use trop_text::Names;
 
-/// The file of generators with these rows, which are in normal form, in the variables with these names.
+/// The file of generators with these rows, which are in normal form, in the variables with these names. Where a file may
+/// hold them, it is read back as these names and rows.
 pub fn print_gens<S: Spelling>(
     alloc: Global,
     names: &Names,
@@ -23,12 +25,13 @@ pub fn print_gens<S: Spelling>(
 ) -> Result<Vec<u8>, NoMemory>
     requires names { gens.now.n ≡ length names.now + 1 }
     requires normal { All (IsNormal S.ring) gens.now.rows }
-    ensures { IfOk result (λ text. text.items ≡ printed_gens S.kind S.numbering names.now gens.now.rows) }
+    ensures text { IfOk result (λ text. text.items ≡ printed_gens S.kind S.numbering names.now gens.now.rows) }
+    ensures read_back { length gens.now.rows ≤ most_generators → rows_size S.ring gens.now.rows ≤ greatest_number → IfOk result (λ text. SpellsGenerators (pieces_of text.items) (generators_by_number S.kind S.numbering names.now gens.now.rows)) }
 {
     let mut text = Vec::new(alloc);
     push_header::<S>(&mut text, b"gens", names)?;
-    for k in 0..gens.len() {
-        push_generator(&mut text, gens.get(k).as_slice())?;
+    for row in gens.as_slice() {
+        push_generator(&mut text, row.as_slice())?;
         text.push(b'\n')?;
     }
     Ok(text)

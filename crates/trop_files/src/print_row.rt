@@ -1,14 +1,18 @@
-ghost use Rattle.std.specs.Prelude.{◌≡◌, ◌++◌, map, OnOk, IfOk};
+ghost use Rattle.std.specs.Prelude.{◌≡◌, ◌≤◌, ◌^◌, ◌++◌, ℕ, map, length, OnOk, IfOk};
+ghost use Rattle.trop_theory.specs.Vectors.{row_size};
 ghost use Rattle.trop_files.specs.Spelling.{element_text};
+ghost use Rattle.trop_files.specs.RowLines.{IsRowLine};
+ghost use Rattle.trop_files.specs.OnlyLines.{IsOnlyLine};
 ghost use Rattle.trop_files.specs.Printed.{after_commas, numbers, printed_row};
 
 use crate::{NoMemory, Spelling};
 use std::alloc::Global;
 use trop_row::Row;
 
-/// The row as it is printed, `[a, b]`.
+/// The row as it is printed, `[a, b]`. It is read back as it is, under each bound on sizes that it keeps.
 pub fn row_text<S: Spelling>(alloc: Global, row: &Row<S>) -> Result<Vec<u8>, NoMemory>
-    ensures { IfOk result (λ text. text.items ≡ printed_row S.kind (numbers S.numbering row.now)) }
+    ensures text { IfOk result (λ text. text.items ≡ printed_row S.kind (numbers S.numbering row.now)) }
+    ensures read_back { (bound : ℕ) → bound ≤ 2 ^ 48 → row_size S.ring row.now ≤ bound → IfOk result (λ text. IsOnlyLine (IsRowLine S.kind S.ring S.numbering bound (length row.now)) text.items row.now) }
 {
     let mut text = Vec::new(alloc);
     push_row(&mut text, row.as_slice())?;

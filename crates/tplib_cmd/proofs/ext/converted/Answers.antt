@@ -20,5 +20,5 @@ returns-in-Ok-print_gens-clause-ok g c =
           converted_text g.met.S.Scalar.ring_laws g.S.Spelling.kind g.S.Scalar.numbering c.args.lines.now.names dd.n dd.system dd.rows c.in-Ok-print_gens.text.items
           (pushed.width ∙ c.in-Ok.ensures.width ∙ ap (λ n. n + 1) (c.len-n.ensures.count ∙ ap length c.names.ensures.names)) c.rows.ensures.described
           (subst (λ n. IsWithin R n dd.system) (sym pushed.width) pushed.within)
-          (c.in-Ok-print_gens.ensures ∙ ap (λ ns. printed_gens g.S.Spelling.kind g.S.Scalar.numbering ns c.rows.result.now.rows) (c.names-2.ensures.names ∙ pushed.names) ∙ ap (printed_gens g.S.Spelling.kind g.S.Scalar.numbering c.args.lines.now.names) c.rows.ensures.rows);
+          (c.in-Ok-print_gens.ensures.text ∙ ap (λ ns. printed_gens g.S.Spelling.kind g.S.Scalar.numbering ns c.rows.result.now.rows) (c.names-2.ensures.names ∙ pushed.names) ∙ ap (printed_gens g.S.Spelling.kind g.S.Scalar.numbering c.args.lines.now.names) c.rows.ensures.rows);
     }

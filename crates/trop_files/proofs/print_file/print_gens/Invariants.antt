@@ -2,8 +2,8 @@ use Rattle.std.proofs.Common.{◌≡◌, ◌++◌, drop}
 use Rattle.trop_files.specs.Printed.{lines_of, generator_line, numbers, printed_gens}
 use Rattle.trop_files.proofs.print_file.print_gens.Given as goal
 
-abbrev pub invariant-loop-k : goal.invariant-loop-k
-invariant-loop-k g l =
+abbrev pub invariant-loop-row : goal.invariant-loop-row
+invariant-loop-row g l =
     let kind = g.S.Spelling.kind in
     let N = g.S.Scalar.numbering in
-    l.text.items ++ lines_of (λ x. generator_line kind (numbers N x)) (drop l.k l.gens.rows) ≡ printed_gens kind N l.names l.gens.rows
+    l.text.items ++ lines_of (λ x. generator_line kind (numbers N x)) (drop l.row-index l.gens.rows) ≡ printed_gens kind N l.names l.gens.rows

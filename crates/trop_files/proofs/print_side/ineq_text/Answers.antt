@@ -1,4 +1,4 @@
-use Rattle.std.proofs.Common.{◌≡◌, ◌<◌, ◌+◌, ◌^◌, ◌++◌, length, ap, ◌∙◌, sym, subst, arith}
+use Rattle.std.proofs.Common.{◌<◌, ◌+◌, ◌^◌, ◌++◌, length, ap, ◌∙◌, sym, subst, arith}
 use Rattle.trop_theory.specs.Inequalities.{IsIn}
 use Rattle.trop_files.specs.Inequalities.{IsInequality}
 use Rattle.trop_files.specs.OnlyLines.{IsOnlyLine}
