@@ -46,6 +46,9 @@ impl<S: Copy + Default> Entries<S> for SmallVec<S, 8> {
     ghost written = { written_items };
 
     fn from_slice(alloc: Global, entries: &[S]) -> Result<SmallVec<S, 8>, AllocError> {
+        if entries.len() > 8 {
+            return Ok(SmallVec::from_vec(Vec::from_slice(alloc, entries)?));
+        }
         SmallVec::from_slice(alloc, entries)
     }
 

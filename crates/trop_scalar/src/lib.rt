@@ -1,5 +1,6 @@
 //! The semirings of the library: the trait `Scalar` with every law that generic code stands on, the trait `Numeric`
-//! of those whose finite elements are the whole numbers, and the three instances.
+//! of those whose finite elements are the whole numbers, and the three instances. `Entries` is where the elements of a row
+//! stand.
 #![tactic(auto)]
 
 mod entries;

@@ -15,6 +15,10 @@ use Rattle.trop_tangent.proofs.Attaining.{IsFinite}
 pub inequality_read : {V : Type 0} (R : Semiring V) (system : List (Inequality V)) (k m : ℕ) (p : Inequality V) → system_size R system ≤ m → k < length system → p ≡ get_or system k p → inequality_size R p ≤ m
 inequality_read R system k m p h l read = subst (λ q. inequality_size R q ≤ m) (sym read) (All-system_size R system m h k p l)
 
+-- a hyperedge at the entries of a row, and that read again
+pub edge_at : {V : Type 0} (R : Semiring V) (p : Inequality V) (x y : List V) (seen edge : Hyperedge) → x ≡ y → edge ≡ seen → TangentEdge R p x seen → TangentEdge R p y edge
+edge_at R p x y seen edge e is h = subst (λ z. TangentEdge R p z edge) e (subst (TangentEdge R p x) (sym is) h)
+
 -- after the first k inequalities
 pub record IsFilled {V : Type 0} (R : Semiring V) (system : List (Inequality V)) (x : List V) (k : ℕ) (graph : Hypergraph) : Type 0 where
   pub nodes : (i : ℕ) → Has graph.nodes i ↔ IsFinite R x i

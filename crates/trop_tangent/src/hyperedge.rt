@@ -26,6 +26,29 @@ fn attaining<S: Scalar>(side: &[S], entries: &[S], sum: S) -> Mask
     mask
 }
 
+// The hyperedge that the inequality gives at the entries, which `tight` says of a row.
+pub fn tight_at<S: Scalar>(ineq: &Ineq<S>, entries: &[S], looks: &mut Looks) -> Option<Edge>
+    requires lengths { length entries.now ≡ length ineq.now.left }
+    requires at_most { length entries.now ≤ 64 }
+    requires row_size { row_size S.ring entries.now ≤ 2 ^ 60 }
+    requires size { inequality_size S.ring ineq.now ≤ 2 ^ 49 }
+    ensures edge { IsTangentOf S.ring entries.now ineq.now result }
+    ensures looks { looks.new ≡ min (looks.old + 1) (2 ^ 62) }
+    ensures kept { looks.old ≤ looks.new }
+{
+    looks.add_one();
+    let left = ineq.left().as_slice();
+    let right = ineq.right().as_slice();
+    let sum = S::sum_of_products(right, entries);
+    if sum == S::zero() || S::sum_of_products(left, entries) != sum {
+        return None;
+    }
+    Some(Edge {
+        tail: attaining(right, entries, sum),
+        head: attaining(left, entries, sum),
+    })
+}
+
 /// The hyperedge that the inequality gives at the row: where its two sums at the row are equal and finite, the tail is the
 /// coordinates where the right side reaches this sum, the head those where the left side does. None comes exactly where
 /// the sums differ or are the zero. It is one look.
@@ -37,13 +60,5 @@ pub fn tight<S: Scalar>(ineq: &Ineq<S>, row: &Row<S>, looks: &mut Looks) -> Opti
     ensures looks { looks.new ≡ min (looks.old + 1) (2 ^ 62) }
     ensures kept { looks.old ≤ looks.new }
 {
-    looks.add_one();
-    let sum = row.dot(ineq.right());
-    if sum == S::zero() || row.dot(ineq.left()) != sum {
-        return None;
-    }
-    Some(Edge {
-        tail: attaining(ineq.right().as_slice(), row.as_slice(), sum),
-        head: attaining(ineq.left().as_slice(), row.as_slice(), sum),
-    })
+    tight_at(ineq, row.as_slice(), looks)
 }
