@@ -64,7 +64,7 @@ pub fn lies_below<S: Scalar>(row: &[S], c: S, above: &[S]) -> bool
     requires sizes { S.ring.size c + row_size S.ring row.now ≤ 2 ^ 62 }
     ensures { IsTrue result ↔ Below S.ring (scaled S.ring c row.now) above.now }
 {
-    for i in 0..row.len() {
+    for i in 0..above.len() {
         if !c.times(row[i]).le(above[i]) {
             return false;
         }

@@ -25,7 +25,7 @@ fn others_meet<S: Scalar>(rows: &[Row<S>], k: usize, target: &[S], t: usize) -> 
     requires target_size { row_size S.ring target.now ≤ 2 ^ 60 }
     ensures { IsTrue result ↔ Any (Meets S.ring target.now t) (remove rows.now k) }
 {
-    some_meets(&rows[..k], target, t) || some_meets(&rows[k + 1..], target, t)
+    some_meets(&rows[k + 1..], target, t) || some_meets(&rows[..k], target, t)
 }
 
 // Whether the row at k is a combination of the others.
@@ -46,7 +46,7 @@ fn depends<S: Scalar>(rows: &[Row<S>], k: usize, n: u32) -> bool
     true
 }
 
-// Takes out, one after another, the rows that the others give.
+// Takes out, one after another from the last on, the rows that the others give. So only rows that stay move up.
 fn drop_combinations<S: Scalar>(rows: &mut Vec<Row<S>>, n: u32)
     requires wide { AreWide n rows.old.items }
     requires sizes { rows_size S.ring rows.old.items ≤ 2 ^ 60 }
@@ -60,12 +60,11 @@ fn drop_combinations<S: Scalar>(rows: &mut Vec<Row<S>>, n: u32)
     ensures fewer { length rows.new.items ≤ length rows.old.items }
     ensures sizes { rows_size S.ring rows.new.items ≤ 2 ^ 60 }
 {
-    let mut k = 0;
-    while k < rows.len() {
+    let mut k = rows.len();
+    while k > 0 {
+        k -= 1;
         if depends(rows.as_slice(), k, n) {
             let _row = rows.remove(k);
-        } else {
-            k += 1;
         }
     }
 }

@@ -1,4 +1,3 @@
-use Rattle.std.proofs.Common.{◌-◌, length}
 use Rattle.trop_row.specs.Reduction.{Kept}
 use Rattle.trop_row.proofs.reduction.drop_combinations.Given as goal
 
@@ -6,4 +5,4 @@ abbrev pub invariant-loop-k : goal.invariant-loop-k
 invariant-loop-k g l = Kept g.S.Scalar.ring l.n l.initial.rows.items l.rows.items l.k
 
 abbrev pub decreases-loop-k : goal.decreases-loop-k
-decreases-loop-k g l = length l.rows.items - l.k
+decreases-loop-k g l = l.k
