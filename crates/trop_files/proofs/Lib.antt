@@ -29,3 +29,4 @@ pub mod LineAnswers
 pub mod WrittenGenerators
 pub mod WrittenNumbers
 pub mod WrittenFiles
+pub mod PartLaws

@@ -1,11 +1,12 @@
--- From what a reader gives to what it promises of a whole file.
+-- From what a reader gives to what it promises, of a whole file or of a part of a source.
 use Rattle.std.proofs.Common.{◌≡◌, ℕ, zero, suc, Bool, true, false, cond, List, [], ◌∷◌, ◌++◌, Ok, Err, refl, sym, ap, subst, ◌∙◌, ◌||◌, ◌==◌}
 use Rattle.trop_grammar.specs.Reading.{Reading, Miss}
-use Rattle.trop_grammar.specs.Reads.{Reads, Anything}
+use Rattle.trop_grammar.specs.Grammar.{StartsWith}
+use Rattle.trop_grammar.specs.Reads.{Reads, Anything, IsFirstFault}
 use Rattle.trop_grammar.proofs.Ends.{EndsWith}
-use Rattle.trop_grammar.proofs.Whole.{IsLastAlone, found, only, first_fault}
+use Rattle.trop_grammar.proofs.Whole.{IsLastAlone, found, only, first_fault, only_front, first_fault_front}
 use Rattle.trop_text.specs.Tokens.{Tok, tokens_of}
-use Rattle.trop_text.specs.Pieces.{Piece, Token, LineEnd, InputEnd, ends_from, pieces_from, pieces_of, pieces_left}
+use Rattle.trop_text.specs.Pieces.{Piece, Token, LineEnd, InputEnd, ends_from, pieces_from, pieces_of, pieces_left, tokens_left}
 use Rattle.trop_text.specs.declared.pieces.Pieces.{Pieces}
 use Rattle.trop_text.specs.declared.lexer.Lexer.{Lexer}
 use Rattle.trop_text.specs.Lexer.{left}
@@ -17,7 +18,8 @@ use Rattle.trop_files.specs.declared.read_err.ReadErr.{ReadErr}
 use Rattle.trop_files.specs.declared.read_err.ReadErr.TheVariants as reads
 use Rattle.trop_files.specs.Words.{is_input_end}
 use Rattle.trop_files.specs.Gives.{Fails, IsToldAs}
-use Rattle.trop_files.specs.Outcome.{Answers, IsFault, IsRefusal}
+use Rattle.trop_files.specs.Outcome.{Answers, IsFaultIn, IsRefusalIn, IsRefusal}
+use Rattle.trop_files.specs.Parts.{IsReadInLine}
 use Rattle.trop_files.proofs.FileLaws.{IsInputEnd}
 
 -- ---- the end of the input stands at the end alone
@@ -65,36 +67,74 @@ miss_of what at (Err miss) k = k
 abbrev read_ok : {A : Type 0} → A × List Piece → Reading Piece FaultKind A
 read_ok p = Ok p
 
-module _ {A : Type 0} {read : List Piece → Reading Piece FaultKind A} {R : List Piece → A → Type 0} (h : Reads Anything read R) (ends : EndsWith IsInputEnd R) (bytes : List ℕ) (ts : List Piece) (start : ts ≡ pieces_of bytes) where
-  same_value : (x y : A) (us vs : List Piece) → read_ok (x, us) ≡ read_ok (y, vs) → x ≡ y
-  same_value x y us vs e = let p : (x, us) ≡ (y, vs) = cc in ap (λ (z : A × List Piece). z.0) p
+same_value : {A : Type 0} (x y : A) (us vs : List Piece) → read_ok (x, us) ≡ read_ok (y, vs) → x ≡ y
+same_value {A} x y us vs e = let p : (x, us) ≡ (y, vs) = cc in ap (λ (z : A × List Piece). z.0) p
 
+-- where a reading stops is the first fault of these pieces
+abbrev IsFirst : {A : Type 0} → (List Piece → Reading Piece FaultKind A) → (List Piece → A → Type 0) → List Piece → Type 0
+IsFirst read R ps = (miss : Miss Piece FaultKind) → read ps ≡ Err miss → IsFirstFault R ps miss.rest
+
+module _ {A : Type 0} (read : List Piece → Reading Piece FaultKind A) (R : List Piece → A → Type 0) (bytes : List ℕ) (ps : List Piece) (first : IsFirst read R ps) where
+  refused_at : (kind : FaultKind) (at : List Piece) (miss : Miss Piece FaultKind) → read ps ≡ Err miss → kind ≡ miss.what → at ≡ miss.rest → IsFaultIn R read bytes ps (fault_before bytes kind at)
+  refused_at kind at miss e k p = record {
+    kind = miss.what;
+    rest = miss.rest;
+    is = ap (λ z. fault_before bytes z at) k ∙ ap (fault_before bytes miss.what) p;
+    first = first miss e;
+    judged = e;
+  }
+
+  wrong_at : (what : FaultKind) (at : List Piece) (r : Reading Piece FaultKind A) → read ps ≡ r → IsMiss what at r → IsFaultIn R read bytes ps (fault_before bytes what at)
+  wrong_at what at (Ok x) e k = absurd k
+  wrong_at what at (Err miss) e k = refused_at what at miss e k.0 k.1
+
+  refused_in : (ts : List Piece) → ts ≡ ps → (e : ReadErr) (told : TextErr) → Fails e (read ts) → IsToldAs bytes e told → IsRefusalIn R read bytes ps told
+  refused_in ts start reads.NoMemory told k is = subst (IsRefusalIn R read bytes ps) (sym is) tt
+  refused_in ts start (reads.Wrong what at) told k is = subst (IsRefusalIn R read bytes ps) (sym is) (wrong_at what (pieces_left at) (read ts) (ap read (sym start)) (miss_of what at (read ts) k))
+
+  unspelled : {X : Type 0} (view : X → A) (told : TextErr) → IsRefusalIn R read bytes ps told → (value : A) → R ps value → Answers view (Err told) value
+  unspelled view errors.NoMemory k value s = tt
+  unspelled view (errors.Fault f) k value s = k.first.spelled value s
+
+-- ---- a whole text
+
+module _ {A : Type 0} {read : List Piece → Reading Piece FaultKind A} {R : List Piece → A → Type 0} (h : Reads Anything read R) (ends : EndsWith IsInputEnd R) (bytes : List ℕ) (ts : List Piece) (start : ts ≡ pieces_of bytes) where
   pub spelled : (x : A) (rest : List Piece) → read ts ≡ Ok (x, rest) → R (pieces_of bytes) x
   spelled x rest e = found h ends (pieces_of bytes) (input_end_alone bytes) x rest (ap read (sym start) ∙ e)
 
   pub answered : {X : Type 0} (view : X → A) (x : X) (rest : List Piece) → read ts ≡ Ok (view x, rest) → (value : A) → R (pieces_of bytes) value → view x ≡ value
   answered view x rest e value s = same_value (view x) value rest [] (sym e ∙ ap read start ∙ only h (pieces_of bytes) value s)
 
-  refused_at : (kind : FaultKind) (at : List Piece) (r : Reading Piece FaultKind A) → read (pieces_of bytes) ≡ r → (miss : Miss Piece FaultKind) → r ≡ Err miss → kind ≡ miss.what → at ≡ miss.rest → IsFault R read bytes (fault_before bytes kind at)
-  refused_at kind at r e miss is k p = record {
-    kind = miss.what;
-    rest = miss.rest;
-    is = ap (λ z. fault_before bytes z at) k ∙ ap (fault_before bytes miss.what) p;
-    first = first_fault h (pieces_of bytes) miss (e ∙ is);
-    judged = e ∙ is;
-  }
-
-  wrong_at : (what : FaultKind) (at : List Piece) (r : Reading Piece FaultKind A) → read (pieces_of bytes) ≡ r → IsMiss what at r → IsFault R read bytes (fault_before bytes what at)
-  wrong_at what at (Ok x) e k = absurd k
-  wrong_at what at (Err miss) e k = refused_at what at (Err miss) e miss refl k.0 k.1
-
   pub refused : (e : ReadErr) (told : TextErr) → Fails e (read ts) → IsToldAs bytes e told → IsRefusal R read bytes told
-  refused reads.NoMemory told k is = subst (IsRefusal R read bytes) (sym is) tt
-  refused (reads.Wrong what at) told k is = subst (IsRefusal R read bytes) (sym is) (wrong_at what (pieces_left at) (read ts) (ap read (sym start)) (miss_of what at (read ts) k))
-
-  unspelled : {X : Type 0} (view : X → A) (told : TextErr) → IsRefusal R read bytes told → (value : A) → R (pieces_of bytes) value → Answers view (Err told) value
-  unspelled view errors.NoMemory k value s = tt
-  unspelled view (errors.Fault f) k value s = k.first.spelled value s
+  refused e told k is = refused_in read R bytes (pieces_of bytes) (first_fault h (pieces_of bytes)) ts start e told k is
 
   pub not_answered : {X : Type 0} (view : X → A) (e : ReadErr) (told : TextErr) → Fails e (read ts) → IsToldAs bytes e told → (value : A) → R (pieces_of bytes) value → Answers view (Err told) value
-  not_answered view e told k is value s = unspelled view told (refused e told k is) value s
+  not_answered view e told k is value s = unspelled read R bytes (pieces_of bytes) (first_fault h (pieces_of bytes)) view told (refused e told k is) value s
+
+-- ---- a part of a source, in a line
+
+-- the pieces with which a reader of a part begins
+pub line_start_is : (line : ℕ) (old lexer : Lexer) (at : Pieces) → left lexer ≡ left old → pieces_left at ≡ pieces_from (left lexer) line → pieces_left at ≡ pieces_from (left old) line
+line_start_is line old lexer at tokens pieces = pieces ∙ ap (λ ts. pieces_from ts line) tokens
+
+-- the pieces behind the line, in the tokens of the lexer that is left
+pub line_rest_is : (rest : Pieces) (lexer : Lexer) → pieces_left rest ≡ pieces_from (tokens_left rest) 0 → left lexer ≡ tokens_left rest → pieces_left rest ≡ pieces_from (left lexer) 0
+line_rest_is rest lexer pieces tokens = pieces ∙ ap (λ ts. pieces_from ts 0) (sym tokens)
+
+module _ {A : Type 0} {read : List Piece → Reading Piece FaultKind A} {R : List Piece → A → Type 0} (h : Reads Anything read R) (line : ℕ) (old : List Tok) (ts : List Piece) (start : ts ≡ pieces_from old line) where
+  pub read_in_line : (x : A) (rest : List Piece) (new : List Tok) → read ts ≡ Ok (x, rest) → rest ≡ pieces_from new 0 → IsReadInLine R line old x new
+  read_in_line x rest new e behind =
+      let t = h.takes ts x rest e in
+      record { front = t.taken; whole = sym start ∙ t.whole ∙ ap (λ (z : List Piece). t.taken ++ z) behind; is = t.is }
+
+  pub answered_in_line : {X : Type 0} (view : X → A) (x : X) (rest : List Piece) → read ts ≡ Ok (view x, rest) → (value : A) → StartsWith R (pieces_from old line) value → view x ≡ value
+  answered_in_line view x rest e value s = same_value (view x) value rest s.back (sym e ∙ ap read start ∙ only_front h (pieces_from old line) value s)
+
+  -- the lexer whose source the fault is told in is of the source of the old one
+  pub refused_in_line : (bytes held : List ℕ) → held ≡ bytes → (e : ReadErr) (told : TextErr) → Fails e (read ts) → IsToldAs held e told → IsRefusalIn (StartsWith R) read bytes (pieces_from old line) told
+  refused_in_line bytes held same e told k is =
+      refused_in read (StartsWith R) bytes (pieces_from old line) (first_fault_front h (pieces_from old line)) ts start e told k (subst (λ (z : List ℕ). IsToldAs z e told) same is)
+
+  pub not_answered_in_line : {X : Type 0} (view : X → A) (bytes : List ℕ) (e : ReadErr) (told : TextErr) → Fails e (read ts) → IsToldAs bytes e told → (value : A) → StartsWith R (pieces_from old line) value → Answers view (Err told) value
+  not_answered_in_line view bytes e told k is value s =
+      unspelled read (StartsWith R) bytes (pieces_from old line) (first_fault_front h (pieces_from old line)) view told (refused_in_line bytes bytes refl e told k is) value s

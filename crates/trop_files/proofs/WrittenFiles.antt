@@ -21,7 +21,7 @@ use Rattle.trop_files.specs.Words.{is_input_end}
 use Rattle.trop_files.specs.Header.{Header, IsHeader}
 use Rattle.trop_files.specs.Elements.{IsRow}
 use Rattle.trop_files.specs.Generators.{greatest_number, most_generators, AreGenerators, is_finite, AnyRows, MaxRows, MinRows, BoolRows, IsGeneratorBody, SpellsGenerators}
-use Rattle.trop_files.specs.RowLines.{IsRowLine}
+use Rattle.trop_files.specs.Parts.{IsRowLine}
 use Rattle.trop_files.specs.OnlyLines.{IsOnlyLine}
 use Rattle.trop_files.specs.ByNumber.{rows_by_number, generators_by_number}
 use Rattle.trop_files.proofs.WrittenElements.{named, row_written}

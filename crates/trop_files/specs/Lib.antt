@@ -24,4 +24,4 @@ pub mod ByNumber
 pub mod OnlyLines
 pub mod InequalityLines
 pub mod HeldLines
-pub mod RowLines
+pub mod Parts

@@ -1,4 +1,4 @@
--- What a reader of a whole file answers.
+-- What a reader of a whole file, or of a part of a source, answers.
 use Rattle.std.specs.Prelude.{◌≡◌, ℕ, List, Result, Ok, Err}
 use Rattle.trop_grammar.specs.Reading.{Reading}
 use Rattle.trop_grammar.specs.Reads.{IsFirstFault}
@@ -15,16 +15,24 @@ Answers view (Ok x) value = view x ≡ value
 Answers view (Err errors.NoMemory) value = Unit {0}
 Answers view (Err (errors.Fault f)) value = ⊥
 
--- The first fault of the bytes as a text of the grammar R, at its place. Its kind is what the judges of the reading
--- function say of that piece.
-pub record IsFault {A : Type 0} (R : List Piece → A → Type 0) (read : List Piece → Reading Piece FaultKind A) (bytes : List ℕ) (f : Fault) : Type 0 where
+-- The first fault of these pieces of a source as a text of the grammar R, at its place. Its kind is what the judges of the
+-- reading function say of that piece.
+pub record IsFaultIn {A : Type 0} (R : List Piece → A → Type 0) (read : List Piece → Reading Piece FaultKind A) (bytes : List ℕ) (pieces : List Piece) (f : Fault) : Type 0 where
   pub kind : FaultKind
   pub rest : List Piece
   pub is : f ≡ fault_before bytes kind rest
-  pub first : IsFirstFault R (pieces_of bytes) rest
-  pub judged : read (pieces_of bytes) ≡ Err (record { what = kind; rest = rest })
+  pub first : IsFirstFault R pieces rest
+  pub judged : read pieces ≡ Err (record { what = kind; rest = rest })
 
--- why a text is refused; want of memory is free
+-- why a text at such pieces is refused; want of memory is free
+abbrev pub IsRefusalIn : {A : Type 0} → (List Piece → A → Type 0) → (List Piece → Reading Piece FaultKind A) → List ℕ → List Piece → TextErr → Type 0
+IsRefusalIn R read bytes pieces errors.NoMemory = Unit {0}
+IsRefusalIn R read bytes pieces (errors.Fault f) = IsFaultIn R read bytes pieces f
+
+-- the first fault of the bytes
+abbrev pub IsFault : {A : Type 0} → (List Piece → A → Type 0) → (List Piece → Reading Piece FaultKind A) → List ℕ → Fault → Type 0
+IsFault R read bytes f = IsFaultIn R read bytes (pieces_of bytes) f
+
+-- why bytes are refused
 abbrev pub IsRefusal : {A : Type 0} → (List Piece → A → Type 0) → (List Piece → Reading Piece FaultKind A) → List ℕ → TextErr → Type 0
-IsRefusal R read bytes errors.NoMemory = Unit {0}
-IsRefusal R read bytes (errors.Fault f) = IsFault R read bytes f
+IsRefusal R read bytes e = IsRefusalIn R read bytes (pieces_of bytes) e

@@ -1,7 +1,7 @@
 //! Elements and rows.
 ghost use Rattle.std.specs.Prelude.{◌≡◌, ◌+◌, ◌≤◌, ◌^◌, IfOk, vec_len};
 ghost use Rattle.trop_grammar.specs.Reading.{token_at, repeat_at};
-ghost use Rattle.trop_text.specs.Pieces.{piece_of, pieces_left};
+ghost use Rattle.trop_text.specs.Pieces.{piece_of, pieces_left, pieces_source};
 ghost use Rattle.trop_text.specs.declared.fault.FaultKind.TheVariants.{Syntax};
 ghost use Rattle.trop_files.specs.RingNames.{kind_of};
 ghost use Rattle.trop_files.specs.Gives.{Gives};
@@ -79,7 +79,8 @@ pub(crate) fn max_rest<'a, S: Scalar>(
     bound: u64,
 ) -> Result<(S, Pieces<'a>), ReadErr<'a>>
     requires { bound ≤ 2 ^ 48 }
-    ensures { Gives (λ x. (x.0, pieces_left x.1)) result (spec.behind_at (spec.max_behind S.ring S.numbering bound) start (pieces_left at.entry)) }
+    ensures gives { Gives (λ x. (x.0, pieces_left x.1)) result (spec.behind_at (spec.max_behind S.ring S.numbering bound) start (pieces_left at.entry)) }
+    ensures source { IfOk result (λ x. pieces_source x.1 ≡ pieces_source at.entry) }
 {
     match (start, at.next()) {
         (Some(x), _) => Ok((x, at)),
@@ -95,7 +96,8 @@ pub(crate) fn min_rest<'a, S: Scalar>(
     bound: u64,
 ) -> Result<(S, Pieces<'a>), ReadErr<'a>>
     requires { bound ≤ 2 ^ 48 }
-    ensures { Gives (λ x. (x.0, pieces_left x.1)) result (spec.behind_at (spec.min_behind S.numbering bound) start (pieces_left at.entry)) }
+    ensures gives { Gives (λ x. (x.0, pieces_left x.1)) result (spec.behind_at (spec.min_behind S.numbering bound) start (pieces_left at.entry)) }
+    ensures source { IfOk result (λ x. pieces_source x.1 ≡ pieces_source at.entry) }
 {
     match (start, at.next()) {
         (Some(x), _) => Ok((x, at)),
@@ -112,7 +114,8 @@ pub(crate) fn element<'a, S: Scalar>(
     bound: u64,
 ) -> Result<(S, Pieces<'a>), ReadErr<'a>>
     requires { bound ≤ 2 ^ 48 }
-    ensures { Gives (λ x. (x.0, pieces_left x.1)) result (spec.element_at (kind_of ring) S.ring S.numbering bound (pieces_left at.entry)) }
+    ensures gives { Gives (λ x. (x.0, pieces_left x.1)) result (spec.element_at (kind_of ring) S.ring S.numbering bound (pieces_left at.entry)) }
+    ensures source { IfOk result (λ x. pieces_source x.1 ≡ pieces_source at.entry) }
 {
     let Some((piece, rest)) = at.next() else {
         return Err(ReadErr::Wrong(FaultKind::Syntax, at));
@@ -140,6 +143,7 @@ fn next_entry<'a, S: Scalar>(
 ) -> Result<Pieces<'a>, ReadErr<'a>>
     requires { bound ≤ 2 ^ 48 }
     ensures gives { Gives (λ rest. (row.new.items, pieces_left rest)) result (spec.next_entry_at (kind_of ring) S.ring S.numbering bound row.old.items (pieces_left at.entry)) }
+    ensures source { IfOk result (λ rest. pieces_source rest ≡ pieces_source at.entry) }
     ensures length { IfOk result (λ rest. vec_len row.new ≡ vec_len row.old + 1) }
 {
     let rest = said(at, b",")?;
@@ -158,6 +162,7 @@ fn more_entries<'a, S: Scalar>(
 ) -> Result<Pieces<'a>, ReadErr<'a>>
     requires { bound ≤ 2 ^ 48 }
     ensures gives { Gives (λ rest. (row.new.items, pieces_left rest)) result (repeat_at (spec.next_entry_at (kind_of ring) S.ring S.numbering bound) count row.old.items (pieces_left at.entry)) }
+    ensures source { IfOk result (λ rest. pieces_source rest ≡ pieces_source at.entry) }
     ensures length { IfOk result (λ rest. vec_len row.new ≡ vec_len row.old + count) }
 {
     let mut rest = at;
@@ -178,6 +183,7 @@ pub(crate) fn row<'a, S: Scalar>(
 ) -> Result<(Vec<S>, Pieces<'a>), ReadErr<'a>>
     requires { bound ≤ 2 ^ 48 }
     ensures gives { Gives (λ x. (x.0.items, pieces_left x.1)) result (spec.row_at (kind_of ring) S.ring S.numbering bound len (pieces_left at.entry)) }
+    ensures source { IfOk result (λ x. pieces_source x.1 ≡ pieces_source at.entry) }
     ensures length { IfOk result (λ x. vec_len x.0 ≡ len) }
 {
     let mut row = Vec::new(alloc);

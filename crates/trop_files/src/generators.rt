@@ -20,14 +20,11 @@ use crate::list_end::ListEnd;
 use crate::read_err::ReadErr;
 use crate::ring_name::RingName;
 use crate::told::text_err;
-use crate::words::{line_end, says, settle};
+use crate::words::{GREATEST_NUMBER, line_end, says, settle};
 use std::alloc::{AllocError, Global};
 use trop_row::{Gens, Row};
 use trop_scalar::{Flag, MaxInt, MinInt, Scalar};
 use trop_text::{FaultKind, Lexer, Names, Piece, Pieces, TextErr};
-
-/// The greatest size of a number in a file, 2^40.
-const GREATEST_NUMBER: u64 = 1 << 40;
 
 /// The most lines of generators in one list.
 const MOST_GENERATORS: u32 = 4096;

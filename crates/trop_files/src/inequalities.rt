@@ -21,14 +21,11 @@ use crate::read_err::ReadErr;
 use crate::ring_name::RingName;
 use crate::terms::{side_start, sum_word};
 use crate::told::text_err;
-use crate::words::{is_digits, says, settle, text_of};
+use crate::words::{GREATEST_NUMBER, is_digits, says, settle, text_of};
 use std::alloc::Global;
 use trop_row::System;
 use trop_scalar::{Flag, MaxInt, MinInt, Scalar};
 use trop_text::{FaultKind, Lexer, Names, Piece, Pieces, TextErr, is_name};
-
-/// The greatest size of a number in a file, 2^40.
-pub(crate) const GREATEST_NUMBER: u64 = 1 << 40;
 
 /// The most lines of inequalities in a file.
 pub(crate) const MOST_INEQUALITIES: u32 = 1024;

@@ -2,7 +2,7 @@
 ghost use Rattle.std.specs.Prelude.{◌≡◌, ◌+◌, ◌≤◌, ◌^◌, IfOk, length};
 ghost use Rattle.trop_theory.specs.Inequalities.{IsIn};
 ghost use Rattle.trop_grammar.specs.Reading.{token_at};
-ghost use Rattle.trop_text.specs.Pieces.{piece_of, pieces_left};
+ghost use Rattle.trop_text.specs.Pieces.{piece_of, pieces_left, pieces_from, pieces_source, tokens_left};
 ghost use Rattle.trop_text.specs.declared.fault.FaultKind.TheVariants.{Syntax};
 ghost use Rattle.trop_files.specs.RingNames.{kind_of};
 ghost use Rattle.trop_files.specs.Gives.{Gives};
@@ -78,7 +78,8 @@ fn order_mark(ring: RingName, piece: Piece<'_>) -> Result<bool, FaultKind>
 // The order word at the place where a reader stands.
 #[tactic(auto, unfolding(trop_grammar::specs::Reading::token_at))]
 fn order<'a>(ring: RingName, at: Pieces<'a>) -> Result<(bool, Pieces<'a>), ReadErr<'a>>
-    ensures { Gives (λ x. (x.0, pieces_left x.1)) result (token_at Syntax (spec.order_mark (kind_of ring)) (pieces_left at.entry)) }
+    ensures gives { Gives (λ x. (x.0, pieces_left x.1)) result (token_at Syntax (spec.order_mark (kind_of ring)) (pieces_left at.entry)) }
+    ensures source { IfOk result (λ x. pieces_source x.1 ≡ pieces_source at.entry) }
 {
     match at.next() {
         Some((piece, rest)) => settle(order_mark(ring, piece), at, rest),
@@ -99,7 +100,9 @@ pub(crate) fn inequality_rest<'a, S: Scalar>(
     requires names { length names.now ≤ 63 }
     requires bound { bound ≤ 2 ^ 48 }
     ensures gives { Gives (λ x. (x.0, pieces_left x.1)) result (spec.inequality_rest_at (kind_of ring) S.ring S.numbering bound names.now start (pieces_left at.entry)) }
+    ensures source { IfOk result (λ x. pieces_source x.1 ≡ pieces_source at.entry) }
     ensures wide { IfOk result (λ x. IsIn (length names.now + 1) x.0) }
+    ensures resumes { IfOk result (λ x. pieces_left x.1 ≡ pieces_from (tokens_left x.1) 0) }
 {
     let (p, rest) = side_rest(alloc, ring, names, start, at, bound)?;
     let (turned, rest) = order(ring, rest)?;

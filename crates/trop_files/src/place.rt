@@ -15,14 +15,11 @@ use crate::list_end::ListEnd;
 use crate::read_err::ReadErr;
 use crate::ring_name::RingName;
 use crate::told::text_err;
-use crate::words::{input_end, line_end};
+use crate::words::{GREATEST_NUMBER, input_end, line_end};
 use std::alloc::Global;
 use trop_row::{Row, System};
 use trop_scalar::{Flag, MaxInt, MinInt, Scalar};
 use trop_text::{Lexer, Names, Pieces, TextErr};
-
-/// The greatest size of a number in a file, 2^40.
-const GREATEST_NUMBER: u64 = 1 << 40;
 
 /// A file of a vector with inequalities.
 #[derive(Drop)]

@@ -1,7 +1,7 @@
 ghost use Rattle.std.specs.Prelude.{◌≡◌, ◌≤◌, ◌^◌, ◌++◌, ℕ, map, length, OnOk, IfOk};
 ghost use Rattle.trop_theory.specs.Vectors.{row_size};
 ghost use Rattle.trop_files.specs.Spelling.{element_text};
-ghost use Rattle.trop_files.specs.RowLines.{IsRowLine};
+ghost use Rattle.trop_files.specs.Parts.{IsRowLine};
 ghost use Rattle.trop_files.specs.OnlyLines.{IsOnlyLine};
 ghost use Rattle.trop_files.specs.Printed.{after_commas, numbers, printed_row};
 

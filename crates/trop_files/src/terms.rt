@@ -2,7 +2,7 @@
 ghost use Rattle.std.specs.Prelude.{◌≡◌, ◌+◌, ◌≤◌, ◌<◌, ◌^◌, IfOk, codes, length};
 ghost use Rattle.trop_grammar.specs.Reading.{token_at};
 ghost use Rattle.trop_grammar.specs.Lists.{separated_step, separated_last, next_of};
-ghost use Rattle.trop_text.specs.Pieces.{piece_of, pieces_left};
+ghost use Rattle.trop_text.specs.Pieces.{piece_of, pieces_left, pieces_source};
 ghost use Rattle.trop_text.specs.declared.fault.FaultKind.TheVariants.{Syntax};
 ghost use Rattle.trop_files.specs.RingNames.{kind_of};
 ghost use Rattle.trop_files.specs.Gives.{Gives};
@@ -134,7 +134,8 @@ fn shifted<'a, S: Scalar>(
     bound: u64,
 ) -> Result<(Term<S>, Pieces<'a>), ReadErr<'a>>
     requires { bound ≤ 2 ^ 48 }
-    ensures { Gives (λ x. (x.0, pieces_left x.1)) result (spec.shifted_at S.numbering bound coordinate up (pieces_left at.entry)) }
+    ensures gives { Gives (λ x. (x.0, pieces_left x.1)) result (spec.shifted_at S.numbering bound coordinate up (pieces_left at.entry)) }
+    ensures source { IfOk result (λ x. pieces_source x.1 ≡ pieces_source at.entry) }
 {
     let Some((piece, rest)) = at.next() else {
         return Err(ReadErr::Wrong(FaultKind::Syntax, at));
@@ -155,7 +156,8 @@ fn variable_rest<'a, S: Scalar>(
     bound: u64,
 ) -> Result<(Term<S>, Pieces<'a>), ReadErr<'a>>
     requires { bound ≤ 2 ^ 48 }
-    ensures { Gives (λ x. (x.0, pieces_left x.1)) result (spec.shifts_at S.ring S.numbering bound coordinate (pieces_left at.entry)) }
+    ensures gives { Gives (λ x. (x.0, pieces_left x.1)) result (spec.shifts_at S.ring S.numbering bound coordinate (pieces_left at.entry)) }
+    ensures source { IfOk result (λ x. pieces_source x.1 ≡ pieces_source at.entry) }
 {
     if let Some((piece, rest)) = at.next() {
         if let Some(up) = shift_sign(piece) {
@@ -177,7 +179,8 @@ fn max_term_rest<'a, S: Scalar>(
     bound: u64,
 ) -> Result<(Term<S>, Pieces<'a>), ReadErr<'a>>
     requires { bound ≤ 2 ^ 48 }
-    ensures { Gives (λ x. (x.0, pieces_left x.1)) result (spec.numeric_rest_at S.ring S.numbering bound (elements.max_behind S.ring S.numbering bound) start (pieces_left at.entry)) }
+    ensures gives { Gives (λ x. (x.0, pieces_left x.1)) result (spec.numeric_rest_at S.ring S.numbering bound (elements.max_behind S.ring S.numbering bound) start (pieces_left at.entry)) }
+    ensures source { IfOk result (λ x. pieces_source x.1 ≡ pieces_source at.entry) }
 {
     let (coefficient, rest) = match start {
         Start::Constant(x) => (x, at),
@@ -199,7 +202,8 @@ fn min_term_rest<'a, S: Scalar>(
     bound: u64,
 ) -> Result<(Term<S>, Pieces<'a>), ReadErr<'a>>
     requires { bound ≤ 2 ^ 48 }
-    ensures { Gives (λ x. (x.0, pieces_left x.1)) result (spec.numeric_rest_at S.ring S.numbering bound (elements.min_behind S.numbering bound) start (pieces_left at.entry)) }
+    ensures gives { Gives (λ x. (x.0, pieces_left x.1)) result (spec.numeric_rest_at S.ring S.numbering bound (elements.min_behind S.numbering bound) start (pieces_left at.entry)) }
+    ensures source { IfOk result (λ x. pieces_source x.1 ≡ pieces_source at.entry) }
 {
     let (coefficient, rest) = match start {
         Start::Constant(x) => (x, at),
@@ -242,7 +246,8 @@ fn term_rest<'a, S: Scalar>(
     bound: u64,
 ) -> Result<(Term<S>, Pieces<'a>), ReadErr<'a>>
     requires { bound ≤ 2 ^ 48 }
-    ensures { Gives (λ x. (x.0, pieces_left x.1)) result (spec.term_rest_at (kind_of ring) S.ring S.numbering bound start (pieces_left at.entry)) }
+    ensures gives { Gives (λ x. (x.0, pieces_left x.1)) result (spec.term_rest_at (kind_of ring) S.ring S.numbering bound start (pieces_left at.entry)) }
+    ensures source { IfOk result (λ x. pieces_source x.1 ≡ pieces_source at.entry) }
 {
     match ring {
         RingName::Max => max_term_rest(start, at, bound),
@@ -261,7 +266,8 @@ fn read_term<'a, S: Scalar>(
 ) -> Result<(Term<S>, Pieces<'a>), ReadErr<'a>>
     requires names { length names.now ≤ 63 }
     requires bound { bound ≤ 2 ^ 48 }
-    ensures { Gives (λ x. (x.0, pieces_left x.1)) result (spec.term_at (kind_of ring) S.ring S.numbering bound names.now (pieces_left at.entry)) }
+    ensures gives { Gives (λ x. (x.0, pieces_left x.1)) result (spec.term_at (kind_of ring) S.ring S.numbering bound names.now (pieces_left at.entry)) }
+    ensures source { IfOk result (λ x. pieces_source x.1 ≡ pieces_source at.entry) }
 {
     let Some((piece, rest)) = at.next() else {
         return Err(ReadErr::Wrong(FaultKind::Syntax, at));
@@ -294,7 +300,8 @@ fn next_term<'a, S: Scalar>(
 ) -> Result<(bool, Pieces<'a>), ReadErr<'a>>
     requires names { length names.now ≤ 63 }
     requires bound { bound ≤ 2 ^ 48 }
-    ensures { Gives (λ x. (next_of x.0 terms.new.items, pieces_left x.1)) result (separated_step Syntax (spec.term_at (kind_of ring) S.ring S.numbering bound names.now) spec.between_terms terms.old.items (pieces_left at.entry)) }
+    ensures gives { Gives (λ x. (next_of x.0 terms.new.items, pieces_left x.1)) result (separated_step Syntax (spec.term_at (kind_of ring) S.ring S.numbering bound names.now) spec.between_terms terms.old.items (pieces_left at.entry)) }
+    ensures source { IfOk result (λ x. pieces_source x.1 ≡ pieces_source at.entry) }
 {
     let (term, at) = read_term(ring, names, at, bound)?;
     let Some((piece, rest)) = at.next() else {
@@ -316,7 +323,8 @@ fn last_term<'a, S: Scalar>(
 ) -> Result<Pieces<'a>, ReadErr<'a>>
     requires names { length names.now ≤ 63 }
     requires bound { bound ≤ 2 ^ 48 }
-    ensures { Gives (λ rest. (terms.new.items, pieces_left rest)) result (separated_last Syntax (spec.term_at (kind_of ring) S.ring S.numbering bound names.now) (words.said (codes ")")) terms.old.items (pieces_left at.entry)) }
+    ensures gives { Gives (λ rest. (terms.new.items, pieces_left rest)) result (separated_last Syntax (spec.term_at (kind_of ring) S.ring S.numbering bound names.now) (words.said (codes ")")) terms.old.items (pieces_left at.entry)) }
+    ensures source { IfOk result (λ rest. pieces_source rest ≡ pieces_source at.entry) }
 {
     let (term, rest) = read_term(ring, names, at, bound)?;
     let rest = said(rest, b")")?;
@@ -334,7 +342,8 @@ fn terms<'a, S: Scalar>(
 ) -> Result<(Vec<Term<S>>, Pieces<'a>), ReadErr<'a>>
     requires names { length names.now ≤ 63 }
     requires bound { bound ≤ 2 ^ 48 }
-    ensures { Gives (λ x. (x.0.items, pieces_left x.1)) result (spec.terms_at (kind_of ring) S.ring S.numbering bound names.now (pieces_left at.entry)) }
+    ensures gives { Gives (λ x. (x.0.items, pieces_left x.1)) result (spec.terms_at (kind_of ring) S.ring S.numbering bound names.now (pieces_left at.entry)) }
+    ensures source { IfOk result (λ x. pieces_source x.1 ≡ pieces_source at.entry) }
 {
     let mut terms = Vec::new(alloc);
     let mut rest = at;
@@ -379,7 +388,8 @@ pub(crate) fn side_rest<'a, S: Scalar>(
 ) -> Result<(Vec<Term<S>>, Pieces<'a>), ReadErr<'a>>
     requires names { length names.now ≤ 63 }
     requires bound { bound ≤ 2 ^ 48 }
-    ensures { Gives (λ x. (x.0.items, pieces_left x.1)) result (spec.side_rest_at (kind_of ring) S.ring S.numbering bound names.now start (pieces_left at.entry)) }
+    ensures gives { Gives (λ x. (x.0.items, pieces_left x.1)) result (spec.side_rest_at (kind_of ring) S.ring S.numbering bound names.now start (pieces_left at.entry)) }
+    ensures source { IfOk result (λ x. pieces_source x.1 ≡ pieces_source at.entry) }
 {
     let Some(start) = start else {
         let rest = said(at, b"(")?;
@@ -402,7 +412,8 @@ pub(crate) fn side<'a, S: Scalar>(
 ) -> Result<(Vec<Term<S>>, Pieces<'a>), ReadErr<'a>>
     requires names { length names.now ≤ 63 }
     requires bound { bound ≤ 2 ^ 48 }
-    ensures { Gives (λ x. (x.0.items, pieces_left x.1)) result (spec.side_at (kind_of ring) S.ring S.numbering bound names.now (pieces_left at.entry)) }
+    ensures gives { Gives (λ x. (x.0.items, pieces_left x.1)) result (spec.side_at (kind_of ring) S.ring S.numbering bound names.now (pieces_left at.entry)) }
+    ensures source { IfOk result (λ x. pieces_source x.1 ≡ pieces_source at.entry) }
 {
     let Some((piece, rest)) = at.next() else {
         return Err(ReadErr::Wrong(FaultKind::Syntax, at));

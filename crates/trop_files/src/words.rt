@@ -1,13 +1,16 @@
 //! Single pieces of a file.
 ghost use Rattle.std.specs.Prelude.{◌≡◌, ◌≤◌, IfOk};
 ghost use Rattle.trop_grammar.specs.Reading.{token_at};
-ghost use Rattle.trop_text.specs.Pieces.{piece_of, pieces_left};
+ghost use Rattle.trop_text.specs.Pieces.{piece_of, pieces_left, pieces_from, pieces_source, tokens_left};
 ghost use Rattle.trop_text.specs.declared.fault.FaultKind.TheVariants.{Syntax};
 ghost use Rattle.trop_files.specs.Gives.{Gives, Settles};
 ghost use Rattle.trop_files.specs.Words as spec;
 
 use crate::read_err::ReadErr;
 use trop_text::{FaultKind, Piece, Pieces, TokenKind, digits_value};
+
+/// The greatest size of a number in a file, 2^40.
+pub(crate) const GREATEST_NUMBER: u64 = 1 << 40;
 
 // The bytes of a token, and none of an end.
 pub(crate) fn text_of<'a>(piece: Piece<'a>) -> &'a [u8]
@@ -56,7 +59,8 @@ pub(crate) fn number(piece: Piece<'_>, bound: u64) -> Result<u64, FaultKind>
 // This word or sign.
 #[tactic(auto, unfolding(trop_grammar::specs::Reading::token_at))]
 pub(crate) fn said<'a>(at: Pieces<'a>, text: &[u8]) -> Result<Pieces<'a>, ReadErr<'a>>
-    ensures { Gives (λ rest. (tt, pieces_left rest)) result (token_at Syntax (spec.said text.now) (pieces_left at.entry)) }
+    ensures gives { Gives (λ rest. (tt, pieces_left rest)) result (token_at Syntax (spec.said text.now) (pieces_left at.entry)) }
+    ensures source { IfOk result (λ rest. pieces_source rest ≡ pieces_source at.entry) }
 {
     match at.next() {
         Some((piece, rest)) if says(piece, text) => Ok(rest),
@@ -67,7 +71,9 @@ pub(crate) fn said<'a>(at: Pieces<'a>, text: &[u8]) -> Result<Pieces<'a>, ReadEr
 // The end of a line.
 #[tactic(auto, unfolding(trop_grammar::specs::Reading::token_at))]
 pub(crate) fn line_end<'a>(at: Pieces<'a>) -> Result<Pieces<'a>, ReadErr<'a>>
-    ensures { Gives (λ rest. (tt, pieces_left rest)) result (token_at Syntax spec.line_end (pieces_left at.entry)) }
+    ensures gives { Gives (λ rest. (tt, pieces_left rest)) result (token_at Syntax spec.line_end (pieces_left at.entry)) }
+    ensures source { IfOk result (λ rest. pieces_source rest ≡ pieces_source at.entry) }
+    ensures resumes { IfOk result (λ rest. pieces_left rest ≡ pieces_from (tokens_left rest) 0) }
 {
     match at.next() {
         Some((Piece::LineEnd(_), rest)) => Ok(rest),

@@ -1,7 +1,8 @@
--- A whole text: from `Reads` to what a public reader promises.
+-- From `Reads` to what a public reader promises, of a whole text or of a text at the front of its tokens.
 use Rattle.std.proofs.Common.{◌≡◌, List, [], ◌∷◌, ◌++◌, Ok, Err, sym, ap, subst, ◌∙◌, append_assoc}
 use Rattle.std.proofs.lemmas.List.{append-nil}
 use Rattle.trop_grammar.specs.Reading.{Reading, Miss}
+use Rattle.trop_grammar.specs.Grammar.{StartsWith}
 use Rattle.trop_grammar.specs.Reads.{Reads, Anything, IsFirstFault}
 use Rattle.trop_grammar.proofs.Ends.{EndsWith}
 
@@ -43,4 +44,24 @@ module _ {T W A : Type 0} {r : List T → Reading T W A} {R : List T → A → T
             let good = only ((k.before ++ t ∷ []) ++ begun.more) begun.value begun.is in
             no_both (k.before ++ t ∷ begun.more) (begun.value, []) _ (ap r (sym (append_assoc k.before (t ∷ []) begun.more)) ∙ good) (k.again t others begun.more at);
         spelled = λ x s. no_both ts (x, []) miss (only ts x s) e;
+      }
+
+  -- ---- a text at the front
+
+  -- what is spelled at the front is read
+  pub only_front : (ts : List T) (x : A) (s : StartsWith R ts x) → r ts ≡ Ok (x, s.back)
+  only_front ts x s = ap r s.whole ∙ h.reads s.front s.back x s.is tt
+
+  -- where the reader stops is the first fault
+  pub first_fault_front : (ts : List T) (miss : Miss T W) → r ts ≡ Err miss → IsFirstFault (StartsWith R) ts miss.rest
+  first_fault_front ts miss e =
+      let k = h.stops ts miss e in
+      record {
+        before = k.before;
+        whole = k.whole;
+        begins = record { more = k.begins.more; value = k.begins.value; is = record { front = k.before ++ k.begins.more; back = []; whole = sym (append-nil (k.before ++ k.begins.more)); is = k.begins.is } };
+        stops = λ t others at begun.
+            let good = only_front ((k.before ++ t ∷ []) ++ begun.more) begun.value begun.is in
+            no_both (k.before ++ t ∷ begun.more) (begun.value, begun.is.back) _ (ap r (sym (append_assoc k.before (t ∷ []) begun.more)) ∙ good) (k.again t others begun.more at);
+        spelled = λ x s. no_both ts (x, s.back) miss (only_front ts x s) e;
       }

@@ -23,6 +23,13 @@ pub record Then {T A B : Type 0} (R : List T → A → Type 0) (S : A → List T
   pub first : R front value
   pub second : S value back y
 
+-- a text of R, and then anything
+pub record StartsWith {T A : Type 0} (R : List T → A → Type 0) (us : List T) (x : A) : Type 0 where
+  pub front : List T
+  pub back : List T
+  pub whole : us ≡ front ++ back
+  pub is : R front x
+
 -- a part that may be left out: it begins with a token that announces it, and left out it means x
 pub data Optional {T A B : Type 0} (announce : T → Option A) (x : B) (R : A → List T → B → Type 0) (us : List T) (y : B) : Type 0 where
   LeftOut : us ≡ [] → y ≡ x → Optional announce x R us y

@@ -1,5 +1,5 @@
 use Rattle.std.proofs.Common.{◌<◌, ◌^◌, ◌++◌, length, ap, ◌∙◌, sym, subst, arith}
-use Rattle.trop_files.specs.RowLines.{IsRowLine}
+use Rattle.trop_files.specs.Parts.{IsRowLine}
 use Rattle.trop_files.specs.OnlyLines.{IsOnlyLine}
 use Rattle.trop_files.specs.Printed.{numbers, printed_row}
 use Rattle.trop_files.proofs.WrittenFiles.{row_read_back}
