@@ -66,8 +66,7 @@ fn inequalities_of_a_line(rt: HostRuntime) -> Result<(), Fail> {
     assert!(rt; ineq_in(alloc, &mut lexer, 1, &names) == Ok(2));
     assert!(rt; next_place(&lexer) == (2, 2));
     assert!(rt;
-        ineq_in(alloc, &mut lexer, 2, &names)
-            == Err(TextErr::Fault(Fault::NumberRange { line: 2 }))
+        ineq_in(alloc, &mut lexer, 2, &names) == Err(TextErr::Fault(Fault::NumberRange { line: 2 }))
     );
     assert!(rt; next_place(&lexer) == (2, 2));
     let mut lexer = Lexer::new(b"x <= x x".as_slice());
