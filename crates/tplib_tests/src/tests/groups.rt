@@ -52,10 +52,11 @@ const ANSWERED: [Groups; 3] = [
 ];
 
 // Files with one inequality too many, and the line that `ext` writes to the sink of errors.
-const REFUSED: [(&str, u8, &str); 3] = [
+const REFUSED: [(&str, u8, &str); 4] = [
     ("", 4, "tplib: limit: inequalities 4\n"),
     ("v1 <= v1\nv2 <= v1\n", 4, "tplib: limit: inequalities 4\n"),
     ("z <= v1\n", 3, "tplib: line 8: unknown name\n"),
+    ("v1 <= v1\nz <= v1\n", 3, "tplib: line 9: unknown name\n"),
 ];
 
 // The variables that a choice takes, one of each group from some group on, as bits. A group of k variables has k + 1
