@@ -1,0 +1,9 @@
+pub mod Sizes
+pub mod Cones
+pub mod Images
+pub mod Generated
+pub mod Operations
+pub mod Meets
+pub mod Minimal
+pub mod Exists
+pub mod Represented

@@ -1,0 +1,12 @@
+pub mod Polars
+pub mod Barriers
+pub mod Separation
+pub mod Bipolar
+pub mod External
+pub mod Exists
+pub mod Sizes
+pub mod Bottom
+pub mod PolarStops
+pub mod Lean
+pub mod LeanLoops
+pub mod LeanExists
