@@ -1,6 +1,7 @@
 pub mod States
 pub mod Conditions
 pub mod Statements
+pub mod Blocks
 pub mod Numbering
 pub mod Steps
 pub mod Visits

@@ -1,0 +1,10 @@
+pub mod Codes
+pub mod BlockCodes
+pub mod Terms
+pub mod Conds
+pub mod Words
+pub mod Claims
+pub mod Stmts
+pub mod Falls
+pub mod NamedCodes
+pub mod Programs
