@@ -47,7 +47,9 @@ ended NoMemory command run bytes told within ready calm_in calm_out h = tt
 ended ReadFault command run bytes told within ready calm_in calm_out h = absurd (calm_in h.1)
 ended WriteFault command run bytes told within ready calm_in calm_out h = absurd (calm_out h.5.3)
 ended BadWords command run bytes told within ready calm_in calm_out h = absurd h
-ended TooLong command run bytes told within ready calm_in calm_out h = absurd (too_long bytes h.0.0 run.in_after.bytes within (subst (λ z. Consumes z run.in_after.bytes h.0.0) told h.0.1) h.0.2)
+ended TooLong command run bytes told within ready calm_in calm_out h =
+    let front = h.0.taken in
+    absurd (too_long bytes front.0 run.in_after.bytes within (subst (λ z. Consumes z run.in_after.bytes front.0) told front.1) front.2)
 ended (Text fault) command run bytes told within ready calm_in calm_out h =
     let same = whole bytes h.0 run.in_after.bytes (subst (λ z. Consumes z run.in_after.bytes h.0) told h.1.taken) h.1.ended in
     absurd (faulty command h.0 fault ready.spelled.0 h.2 (subst (λ z. Spells command z ready.spelled.0) (sym same) ready.spelled.1))

@@ -7,7 +7,7 @@ use Rattle.tplib_cmd.specs.declared.status.Status.{Status}
 use Rattle.tplib_cmd.specs.declared.status.Status.TheVariants.{Done, No, BadWords, Text, TooLong, Limit, Range, ReadFault, WriteFault, NoMemory}
 use Rattle.tplib_cmd.specs.Commands.{IsCommand}
 use Rattle.tplib_cmd.specs.Answers.{Value, Spells, HasFault, Answers, HasLimit, HasRange}
-use Rattle.tplib_cmd.specs.Streams.{Stream, IsReadWhole, IsReadInPart, IsReadTooFar, IsSame, IsWritten, IsCutShort}
+use Rattle.tplib_cmd.specs.Streams.{Stream, IsReadWhole, IsReadInPart, IsReadTooFar, IsCalm, IsSame, IsWritten, IsCutShort}
 
 -- the input and the output of a run, before and after it
 pub record Run : Type 0 where
@@ -44,7 +44,7 @@ Ends command run ReadFault =
     IsReadInPart run.in_before run.in_after × Rose run.in_before.faults run.in_after.faults × IsSame run.out_before run.out_after
 Ends command run WriteFault =
     (bytes : List ℕ) × (text : List ℕ) × (status : Status) × IsReadWhole run.in_before run.in_after bytes × IsAnswered command bytes status text × IsCutShort run.out_before run.out_after text
-Ends command run NoMemory = IsReadInPart run.in_before run.in_after × IsSame run.out_before run.out_after
+Ends command run NoMemory = IsReadInPart run.in_before run.in_after × IsCalm run.in_before run.in_after × IsSame run.out_before run.out_after
 
 -- The same of any words: `BadWords` exactly where they spell no command. Then nothing was touched.
 abbrev pub EndsWith : List (List ℕ) → Run → Status → Type 0

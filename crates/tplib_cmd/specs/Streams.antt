@@ -14,19 +14,25 @@ pub record Stream : Type 0 where
 abbrev pub longest_input : ℕ
 longest_input = 4194304
 
--- the input was read to its end, and had these bytes
+-- no call failed: the count of faults is as before
+abbrev pub IsCalm : Stream → Stream → Type 0
+IsCalm before after = after.faults ≡ before.faults
+
+-- the input was read to its end, had these bytes, and no read failed
 pub record IsReadWhole (before after : Stream) (bytes : List ℕ) : Type 0 where
   pub taken : Consumes before.bytes after.bytes bytes
   pub ended : IsAtEnd after.bytes
   pub within : length bytes ≤ longest_input
+  pub calm : IsCalm before after
 
 -- a front of the input of at most the longest length was read
 abbrev pub IsReadInPart : Stream → Stream → Type 0
 IsReadInPart before after = TakesFront before.bytes after.bytes (λ n. n ≤ longest_input)
 
--- one byte more than the longest input was read, and no further one
-abbrev pub IsReadTooFar : Stream → Stream → Type 0
-IsReadTooFar before after = TakesFront before.bytes after.bytes (λ n. n ≡ longest_input + 1)
+-- one byte more than the longest input was read, and no further one, and no read failed
+pub record IsReadTooFar (before after : Stream) : Type 0 where
+  pub taken : TakesFront before.bytes after.bytes (λ n. n ≡ longest_input + 1)
+  pub calm : IsCalm before after
 
 -- a stream was not touched
 pub record IsSame (before after : Stream) : Type 0 where

@@ -1,3 +1,4 @@
+//! Faults of streams.
 use std::alloc::AllocError;
 use thiserror::Error;
 

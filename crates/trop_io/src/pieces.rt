@@ -1,3 +1,4 @@
+//! How many bytes a call moves.
 ghost use Rattle.std.specs.Prelude.{◌≡◌, ◌≤◌, ◌-◌, ◌++◌, length, take, min, vec_capacity};
 
 // Copies as many bytes as the piece and both slices allow.

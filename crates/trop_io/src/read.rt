@@ -1,6 +1,6 @@
-ghost use Rattle.std.specs.Prelude.{◌≡◌, ◌+◌, ◌^◌, ◌<◌, ◌≤◌, IsErrOf};
-ghost use Rattle.trop_io.specs.Faults.{Rose};
-ghost use Rattle.trop_io.specs.Whole.{ReadsAll};
+//! Reading a source to its end.
+ghost use Rattle.std.specs.Prelude.{◌≡◌, ◌+◌, ◌^◌, ◌<◌, ◌≤◌};
+ghost use Rattle.trop_io.specs.Whole.{ReadsAll, CountsReads};
 
 use crate::Source;
 use std::alloc::Global;
@@ -12,17 +12,18 @@ pub enum ReadAllErr {
     /// A read failed; the source's count of faults rose.
     #[error("read failed")]
     ReadFault,
-    /// One byte more than the limit was read, and no further one.
+    /// One byte more than the limit was read, and no further one. No read failed.
     #[error("longer than the limit")]
     TooLong,
-    /// Want of memory.
+    /// Want of memory. No read failed.
     #[error("out of memory")]
     NoMemory,
 }
 
 const CHUNK: usize = 4096;
 
-/// Reads all that is left, at most `limit` bytes, by at most `limit + 2` reads.
+/// Reads all that is left, at most `limit` bytes, by at most `limit + 2` reads. No failed read is tried again: the
+/// source's count of faults is as before, but with `ReadFault`.
 ///
 /// Errors: see [`ReadAllErr`]. `TooLong` comes exactly where byte number `limit + 1` was read.
 pub fn read_all<I: Source>(
@@ -32,8 +33,7 @@ pub fn read_all<I: Source>(
 ) -> Result<Vec<u8>, ReadAllErr>
     requires { limit < 2 ^ 32 }
     ensures bytes { ReadsAll (I.left source.old) (I.left source.new) limit result }
-    ensures fault { IsErrOf result ReadAllErr.ReadFault → Rose (I.faults source.old) (I.faults source.new) }
-    ensures later { I.faults source.old ≤ I.faults source.new }
+    ensures faults { CountsReads (I.faults source.old) (I.faults source.new) result }
     ensures calls { I.calls source.new ≤ I.calls source.old + (limit + 2) }
 {
     let mut all = Vec::new(alloc);

@@ -1,3 +1,4 @@
+//! Sinks of bytes.
 ghost use Rattle.std.specs.Prelude.{◌≡◌, ◌<◌, List, ℕ, length, IfOk, IsOk};
 ghost use Rattle.std.specs.declared.option.Option.{Option};
 ghost use Rattle.std.specs.Io.{WritesAtMost};
@@ -15,7 +16,7 @@ pub trait Sink {
     ghost faults: { Self → ℕ };
 
     /// Appends a front of `piece`, and answers how many bytes: at least one, unless the piece is empty.
-    /// An empty piece never fails.
+    /// An empty piece never fails. The count of faults is as before then.
     ///
     /// Errors: [`Failed`] only where the count of faults rose in this call; nothing is appended then.
     fn write(&mut self, piece: &[u8]) -> Result<usize, Failed>

@@ -1,3 +1,4 @@
+//! Sources of bytes.
 ghost use Rattle.std.specs.Prelude.{◌≡◌, ◌+◌, ◌≤◌, List, ℕ};
 ghost use Rattle.std.specs.declared.option.Option.{Option};
 ghost use Rattle.std.specs.Io.{ReadsAtMost};
@@ -18,7 +19,7 @@ pub trait Source {
     ghost calls: { Self → ℕ };
 
     /// Reads into the front of `buf`, and answers how many bytes. They are the front of what was left, and the rest is left.
-    /// `Ok(0)` on a buffer that isn't empty means that nothing is left.
+    /// `Ok(0)` on a buffer that isn't empty means that nothing is left. The count of faults is as before then.
     ///
     /// Errors: [`Failed`] only where the count of faults rose in this call; nothing is taken then.
     fn read(&mut self, buf: &mut [u8]) -> Result<usize, Failed>

@@ -1,3 +1,4 @@
+//! Writing the whole of a text to a sink.
 ghost use Rattle.std.specs.Prelude.{◌≡◌, ◌≤◌, OnErr};
 ghost use Rattle.trop_io.specs.Faults.{HasCause};
 ghost use Rattle.trop_io.specs.Whole.{WritesAll};
@@ -10,7 +11,8 @@ use thiserror::Error;
 #[error("write failed")]
 pub struct WriteFault;
 
-/// Writes all bytes. It takes no memory.
+/// Writes all bytes. It takes no memory. No failed write is tried again: the sink's count of faults is as before, but with
+/// the error.
 ///
 /// Errors: [`WriteFault`] only where the sink's count of faults rose in this call.
 pub fn write_all<O: Sink>(sink: &mut O, bytes: &[u8]) -> Result<(), WriteFault>

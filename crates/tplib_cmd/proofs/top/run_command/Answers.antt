@@ -9,4 +9,4 @@ returns g c =
     let wrote = c.in-Err.ensures.bytes in
     let answered = subst (λ bytes. IsAnswered c.in-Some.command bytes (status_of c.in-Ok-answer.reply.yes) c.in-Ok-answer.reply.text.items) c.deref.ensures.value c.in-Ok-answer.ensures.ok in
     let text = subst (λ text. IsAnswered c.in-Some.command c.in-Ok.bytes.items (status_of c.in-Ok-answer.reply.yes) text) (sym c.deref-2.ensures.value) answered in
-    record { ends = inl (c.in-Some.command, c.in-Some.ensures, (c.in-Ok.bytes.items, c.deref-2.result.now, status_of c.in-Ok-answer.reply.yes, record { taken = read.0; ended = read.1; within = read.2 }, text, (wrote.0, wrote.1, wrote.2, c.in-Err.ensures.cause.failed))) }
+    record { ends = inl (c.in-Some.command, c.in-Some.ensures, (c.in-Ok.bytes.items, c.deref-2.result.now, status_of c.in-Ok-answer.reply.yes, record { taken = read.0; ended = read.1; within = read.2; calm = c.in-Ok.ensures.faults }, text, (wrote.0, wrote.1, wrote.2, c.in-Err.ensures.cause.failed))) }
