@@ -11,7 +11,8 @@ use Rattle.prog_theory.specs.Edges.{Op, Skips, Sets, Havocs, Edge, edge_to, test
 use Rattle.prog_theory.specs.Places.{own_inner, widths, entry, Place, places_of}
 use Rattle.prog_theory.specs.Graph.{Point, Statement, Inner, Exit, own_edges, program_places, points, edges}
 use Rattle.prog_theory.specs.PointVisits.{VisitsOf, Visits, IsOuterPoint, IsOuter}
-use Rattle.prog_theory.specs.Walks.{Leads, Walk, Reaches}
+use Rattle.prog_theory.specs.Walks.{Leads}
+use Rattle.prog_theory.proofs.Lengths.{Walk, WalksTo}
 use Rattle.prog_theory.proofs.Elements.{Includes, Includes-tail, Includes-left, Includes-right}
 use Rattle.prog_theory.proofs.Conditions.{Can, test_from}
 use Rattle.prog_theory.proofs.TestEdges.{target}
@@ -224,7 +225,7 @@ module _ (P : Program) where
       let x = exit_is 0 0 (program_places P) (0 + widths P.body) (0 + counts P.body) t p e in
       record { beside = λ l c. let w = within 0 0 (program_places P) (0 + widths P.body) (0 + counts P.body) t l c in inr (omega (arith, w.1)) }
 
-  found_visits : (p : ℕ) (s : State) → Outside p → Reaches P p s → Found p s
+  found_visits : (p : ℕ) (s : State) → Outside p → WalksTo P p s → Found p s
   found_visits p s out (start, wide, n, w) =
       found_at n n (omega arith) (numbered 0 P.body) 0 start p s (program_fits P) (begins start wide) out w
 
@@ -253,7 +254,7 @@ module _ (P : Program) where
       (top.stmt, rest, subst (λ (x : ℕ). Arrives P (record { number = x; stmt = top.stmt } ∷ rest) s) same a)
 
   -- each walk to an outer point is a visit
-  pub reach_visits : (p : ℕ) (s : State) → IsOuter P p → Reaches P p s → Visits P p s
+  pub reach_visits : (p : ℕ) (s : State) → IsOuter P p → WalksTo P p s → Visits P p s
   reach_visits p s o r = go (slice_get (points P) p) refl o
     where
       go : (x : Option Point) → slice_get (points P) p ≡ x → IsOuterPoint x → VisitsOf P x s

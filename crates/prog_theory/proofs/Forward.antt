@@ -9,7 +9,7 @@ use Rattle.prog_theory.specs.Edges.{Skips, Sets, Havocs}
 use Rattle.prog_theory.specs.Places.{widths, entry, Place, places_of}
 use Rattle.prog_theory.specs.Graph.{Point, Statement, Inner, Exit, program_places, points, edges}
 use Rattle.prog_theory.specs.PointVisits.{VisitsOf, Visits}
-use Rattle.prog_theory.specs.Walks.{Walk, Reaches}
+use Rattle.prog_theory.proofs.Lengths.{Walk, WalksTo}
 use Rattle.prog_theory.proofs.Elements.{Includes, Includes-self, Includes-tail, Includes-left, Includes-right}
 use Rattle.prog_theory.proofs.Conditions.{test_can}
 use Rattle.prog_theory.proofs.Walking.{Goes, stays, joined, by_edge_to}
@@ -107,7 +107,7 @@ module _ (P : Program) where
       record { at = 0; fits = program_fits; start = t; wide = w; goes = stays (edges P) 0 t }
   arrives_stands stack s (goes_on before t after u a g) = step_stands before t after u (arrives_stands before t a) g
 
-  stands_reaches : (stack : Stack) (s : State) (p : ℕ) (h : Stands stack s) → h.at ≡ p → Reaches P p s
+  stands_reaches : (stack : Stack) (s : State) (p : ℕ) (h : Stands stack s) → h.at ≡ p → WalksTo P p s
   stands_reaches stack s p h e = (h.start, h.wide, h.goes.count, subst (λ (x : ℕ). Walk (edges P) h.goes.count 0 h.start x s) e h.goes.walk)
 
   -- the place of a statement on top is where its number stands
@@ -127,10 +127,10 @@ module _ (P : Program) where
       omega arith
 
   -- each visit is a walk
-  pub visits_reach : (p : ℕ) (s : State) → Visits P p s → Reaches P p s
+  pub visits_reach : (p : ℕ) (s : State) → Visits P p s → WalksTo P p s
   visits_reach p s v = go (slice_get (points P) p) refl v
     where
-      go : (o : Option Point) → slice_get (points P) p ≡ o → VisitsOf P o s → Reaches P p s
+      go : (o : Option Point) → slice_get (points P) p ≡ o → VisitsOf P o s → WalksTo P p s
       go None e v = absurd v
       go (Some Inner) e v = absurd v
       go (Some Exit) e v = let h = arrives_stands [] s v in stands_reaches [] s p h (exit_place p h.at e h.fits)

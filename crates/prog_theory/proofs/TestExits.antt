@@ -5,7 +5,8 @@ use Rattle.std.proofs.lemmas.List.Elements.{Contains-append_cases}
 use Rattle.prog_theory.specs.States.{State, Term}
 use Rattle.prog_theory.specs.Tests.{Test, Choice, Guard, Negated, Both, Either, above, inner}
 use Rattle.prog_theory.specs.Edges.{Op, Skips, Guards, Edge, edge_to, test_edges}
-use Rattle.prog_theory.specs.Walks.{Leads, Walk}
+use Rattle.prog_theory.specs.Walks.{Leads}
+use Rattle.prog_theory.proofs.Lengths.{Walk}
 use Rattle.prog_theory.proofs.Elements.{Contains-cases, Contains-none}
 use Rattle.prog_theory.proofs.Conditions.{Can}
 use Rattle.prog_theory.proofs.TestEdges.{target}

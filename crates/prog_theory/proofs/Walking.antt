@@ -2,7 +2,8 @@
 use Rattle.std.proofs.Common.{◌≡◌, ℕ, zero, suc, List, Option, Some, None, refl, sym, subst, subst₂, Contains}
 use Rattle.prog_theory.specs.States.{State}
 use Rattle.prog_theory.specs.Edges.{Op, Edge, edge_to}
-use Rattle.prog_theory.specs.Walks.{Leads, Walk}
+use Rattle.prog_theory.specs.Walks.{Leads}
+use Rattle.prog_theory.proofs.Lengths.{Walk}
 use Rattle.prog_theory.proofs.Elements.{Includes, Includes-head}
 
 -- there is a walk from one point and state to another

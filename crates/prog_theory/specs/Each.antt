@@ -1,7 +1,8 @@
--- What holds of each part of a program.
+-- What holds of each part of a program, and of an operation.
 use Rattle.std.specs.Prelude.{ℕ, All}
 use Rattle.prog_theory.specs.States.{Term}
 use Rattle.prog_theory.specs.Conditions.{Cond, Any, Atom, Not, And, Or}
+use Rattle.prog_theory.specs.Edges.{Op, Skips, Sets, Havocs, Guards}
 use Rattle.prog_theory.specs.Statements.{Claim, Stmt, Set, Havoc, Assume, Assert, If, While, Skip, Block, Empty, Then}
 
 -- of each term of a condition
@@ -41,3 +42,10 @@ abbrev mutual
   pub EachClaims : (Claim → Type 0) → Block → Type 0
   EachClaims C Empty = Unit {0}
   EachClaims C (Then st b) = EachClaim C st × EachClaims C b
+
+-- of the variable that an operation changes, and of its terms
+abbrev pub EachOp : (ℕ → Type 0) → (Term → Type 0) → Op → Type 0
+EachOp V T Skips = Unit {0}
+EachOp V T (Sets x t) = V x × T t
+EachOp V T (Havocs x) = V x
+EachOp V T (Guards l r) = T l × T r

@@ -3,8 +3,8 @@ use Rattle.std.specs.Prelude.{ℕ, ◌<◌, ◌≤◌, List, Contains}
 use Rattle.prog_theory.specs.States.{Term}
 use Rattle.prog_theory.specs.Conditions.{Cond}
 use Rattle.prog_theory.specs.Statements.{Stmt, Block, Program}
-use Rattle.prog_theory.specs.Each.{EachTerm, EachStmt, EachBlock}
-use Rattle.prog_theory.specs.Edges.{Op, Skips, Sets, Havocs, Guards, Edge}
+use Rattle.prog_theory.specs.Each.{EachTerm, EachStmt, EachBlock, EachOp}
+use Rattle.prog_theory.specs.Edges.{Op, Edge}
 
 -- the term stands at a coordinate up to the number of variables
 abbrev pub FitsTerm : ℕ → Term → Type 0
@@ -14,10 +14,7 @@ abbrev pub IsVariable : ℕ → ℕ → Type 0
 IsVariable vars x = (0 < x) × (x ≤ vars)
 
 abbrev pub FitsOp : ℕ → Op → Type 0
-FitsOp vars Skips = Unit {0}
-FitsOp vars (Sets x t) = IsVariable vars x × FitsTerm vars t
-FitsOp vars (Havocs x) = IsVariable vars x
-FitsOp vars (Guards l r) = FitsTerm vars l × FitsTerm vars r
+FitsOp vars op = EachOp (IsVariable vars) (FitsTerm vars) op
 
 abbrev pub FitEdges : ℕ → List Edge → Type 0
 FitEdges vars edges = (e : Edge) → Contains edges e → FitsOp vars e.op

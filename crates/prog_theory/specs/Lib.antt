@@ -20,6 +20,8 @@ pub mod Within
 pub mod Places
 pub mod Graph
 pub mod Heads
+pub mod ControlGraphs
+pub mod GraphKeeps
 pub mod PointVisits
 pub mod Walks
 pub mod Families

@@ -18,7 +18,7 @@
 //! **The control graph.** Comparisons become guards `l <= r` (`Tests`). A condition has inner points, where its left
 //! side is decided and its right side is not (`Edges`); each statement has a point and those of its condition
 //! (`Places`); the graph has these points, the exit and the edges between them (`Graph`), and its heads are the points
-//! of `while` (`Heads`).
+//! of `while` (`Heads`, `ControlGraphs`). What each such graph keeps is in `GraphKeeps`.
 //!
 //! **The theorem** (`proofs/WalksAreVisits`). A walk along the edges from point 0, begun at any state, comes to the
 //! point of a statement or to the exit with a state exactly where a run visits it with that state (`Walks`,
