@@ -9,7 +9,8 @@ use Rattle.trop_theory.specs.Normal.{IsNormal}
 use Rattle.trop_theory.specs.Combinations.{IsCombination, AreIndependent}
 use Rattle.trop_theory.specs.Canonical.{RowBelow, IsCanonical}
 use Rattle.trop_theory.proofs.Distinct.{row_below_itself}
-use Rattle.trop_theory.proofs.Canonical.{All-remove, Contains-extreme, IsExtreme-same, IsCombination-remove}
+use Rattle.trop_theory.proofs.Canonical.{Contains-extreme, IsExtreme-same, IsCombination-remove}
+use Rattle.plain_lemmas.proofs.Lists.{All-remove}
 
 module _ {V : Type 0} {R : Semiring V} (laws : SemiringLaws R) (n : ℕ) where
   -- a row of an ascending list is not among the others

@@ -10,9 +10,10 @@ use Rattle.trop_theory.specs.Inequalities.{Inequality, IsIn, inequality_size}
 use Rattle.trop_theory.proofs.Order.{undo_times, factor_finite, left_factor_finite}
 use Rattle.trop_theory.proofs.Sizes.{size-entry}
 use Rattle.trop_theory.proofs.Truth.{some_term}
-use Rattle.trop_criterion.specs.Tangents.{Attains, IsTight, KeepsTangent, TangentReaches}
-use Rattle.trop_criterion.proofs.Tests.{test, test_true, true_test, decide_true, decide_not, decide_both, stable, some_below}
-use Rattle.trop_criterion.proofs.Tallies.{count, count-le, count_some, count_missing, added, added_old, added_cases, count_added}
+use Rattle.trop_criterion.specs.Tangents.{Attains, IsTight}
+use Rattle.trop_criterion.proofs.Reaching.{KeepsTangent, TangentReaches}
+use Rattle.plain_lemmas.proofs.Decisions.{test, test_true, true_test, decide_true, decide_not, decide_both, stable, some_below}
+use Rattle.plain_lemmas.proofs.Tallies.{count, count-le, count_some, count_missing, added, added_old, added_cases, count_added}
 use Rattle.trop_criterion.proofs.Weakened.{attains_within}
 
 module _ {V : Type 0} {R : Semiring V} (laws : SemiringLaws R) where

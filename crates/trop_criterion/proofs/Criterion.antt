@@ -9,8 +9,9 @@ use Rattle.trop_theory.specs.Semiring.{Semiring, SemiringLaws}
 use Rattle.trop_theory.specs.Vectors.{entry}
 use Rattle.trop_theory.specs.Inequalities.{Inequality, IsIn, Solves, inequality_size, system_size}
 use Rattle.trop_theory.specs.Extreme.{IsExtreme, IsType}
-use Rattle.trop_criterion.specs.Tangents.{IsReachedFromAll}
-use Rattle.trop_criterion.proofs.Types.{IsType-reached, reached_from_IsType, IsExtreme-from_type}
+use Rattle.trop_criterion.proofs.Reaching.{IsReachedFromAll}
+use Rattle.trop_criterion.proofs.Types.{IsType-reached, reached_from_IsType}
+use Rattle.trop_theory.proofs.Types.{IsExtreme-from_type}
 use Rattle.trop_criterion.proofs.Closures.{Closure, closure_of}
 use Rattle.trop_criterion.proofs.Extremes.{some_reached}
 

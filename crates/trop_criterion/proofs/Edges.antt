@@ -6,7 +6,8 @@ use Rattle.std.proofs.lemmas.List.Elements.{filter_map-append, All-nil, All-cons
 use Rattle.trop_theory.specs.Semiring.{Semiring}
 use Rattle.trop_theory.specs.Inequalities.{Inequality}
 use Rattle.trop_criterion.specs.Hypergraphs.{Hyperedge, Keeps, Reaches}
-use Rattle.trop_criterion.specs.Tangents.{TangentEdge, IsTangentOf, AreTangents, KeepsTangent, TangentReaches}
+use Rattle.trop_criterion.specs.Tangents.{TangentEdge, IsTangentOf, AreTangents}
+use Rattle.trop_criterion.proofs.Reaching.{KeepsTangent, TangentReaches}
 
 module _ {V : Type 0} (R : Semiring V) (x : List V) where
   pub KeepsTangent-edge : (set : ℕ → Bool) (p : Inequality V) (edge : Hyperedge) → TangentEdge R p x edge → Keeps set edge ↔ KeepsTangent R x set p

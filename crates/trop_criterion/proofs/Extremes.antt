@@ -7,11 +7,11 @@ use Rattle.trop_theory.specs.Semiring.{Semiring, SemiringLaws}
 use Rattle.trop_theory.specs.Vectors.{entry, joined, bottom}
 use Rattle.trop_theory.specs.Inequalities.{Inequality, IsIn, Solves}
 use Rattle.trop_theory.specs.Extreme.{IsExtreme}
-use Rattle.trop_theory.proofs.Order.{plus_itself, times_zero}
+use Rattle.trop_theory.proofs.Order.{plus_itself, times_zero, delta_times, delta_moves}
 use Rattle.trop_theory.proofs.Rows.{same_rows, entry-joined, entry-bottom, length-joined}
-use Rattle.trop_criterion.specs.Tangents.{KeepsTangent, TangentReaches}
-use Rattle.trop_criterion.proofs.Tests.{test, test_true, true_test, decide_true, decide_not, decide_both, stable, some_below}
-use Rattle.trop_criterion.proofs.Weakened.{weakened, length-weakened, weakened_in, weakened_out, Below-weakened, Solves-weakened, delta_times, delta_moves}
+use Rattle.trop_criterion.proofs.Reaching.{KeepsTangent, TangentReaches}
+use Rattle.plain_lemmas.proofs.Decisions.{test, test_true, true_test, decide_true, decide_not, decide_both, stable, some_below}
+use Rattle.trop_criterion.proofs.Weakened.{weakened, length-weakened, weakened_in, weakened_out, Below-weakened, Solves-weakened}
 
 module _ {V : Type 0} {R : Semiring V} (laws : SemiringLaws R) where
   -- the numbers in both sets

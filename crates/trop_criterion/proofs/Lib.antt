@@ -1,8 +1,5 @@
-pub mod Tests
-pub mod Tallies
-pub mod Words
-pub mod Counts
-pub mod Growth
+pub mod Hypergraphs
+pub mod Reaching
 pub mod Weakened
 pub mod Types
 pub mod Closures

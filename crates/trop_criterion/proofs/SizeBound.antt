@@ -1,6 +1,6 @@
 -- The entries of an extreme solution are close to each other: where the coefficients of the system have size at most
 -- m, two finite entries in n coordinates differ by at most 4 m (n - 1).
-use Rattle.std.proofs.Common.{◌≡◌, ◌≢◌, ◌<◌, ◌≤◌, ◌+◌, ◌*◌, ◌-◌, add-mul, ℕ, zero, suc, List, [], ◌∷◌, length, ⊎_elim, sym, ap, ◌∙◌, arith, subst}
+use Rattle.std.proofs.Common.{◌≡◌, ◌≢◌, ◌<◌, ◌≤◌, ◌+◌, ◌*◌, ◌-◌, add-mul, ℕ, zero, suc, List, [], ◌∷◌, length, ⊎_elim, sym, ap, ◌∙◌, arith, subst, get_or}
 use Rattle.std.specs.Prelude.{All}
 use Rattle.std.proofs.Math.Nat.{mul-suc}
 use Rattle.std.proofs.lemmas.List.{get_or_past}
@@ -11,9 +11,11 @@ use Rattle.trop_theory.specs.Normal.{IsNormal}
 use Rattle.trop_theory.specs.Inequalities.{Inequality, IsIn, Solves, system_size}
 use Rattle.trop_theory.specs.Extreme.{IsExtreme}
 use Rattle.trop_theory.proofs.Order.{undo_times, redo_times, times_one}
-use Rattle.trop_criterion.specs.Tangents.{IsReachedFromAll}
+use Rattle.trop_criterion.proofs.Reaching.{IsReachedFromAll}
 use Rattle.trop_criterion.proofs.Closures.{distance, distance_over, quotient_over}
 use Rattle.trop_criterion.proofs.Criterion.{All-system_size, closure_at, reached_from_extreme}
+use Rattle.trop_criterion.specs.SizeBound.{HaveSpread}
+use Rattle.trop_theory.specs.Canonical.{IsCanonical}
 
 -- two stretches of m for each of n - 1 steps
 two_ways : (d e m n : ℕ) → 1 ≤ n → d + 2 * m ≤ 2 * m * n → e + 2 * m ≤ 2 * m * n → d + e ≤ 4 * m * (n - 1)
@@ -66,3 +68,8 @@ module _ {V : Type 0} {R : Semiring V} (laws : SemiringLaws R) where
         (λ z. omega (arith, ap R.size z, laws.size_zero))
         (λ f. subst (λ s. s ≤ 4 * m * (n - 1)) (ap (λ a. distance laws (entry R x i) a) normal.is_one ∙ distance_one (entry R x i)) (extreme_entries_near i normal.first f (λ z. laws.one_finite (sym normal.is_one ∙ z))))
         (laws.discrete (entry R x i) R.zero))
+
+  -- the rows of the canonical list of the solutions
+  pub HaveSpread-canonical : (n m : ℕ) (system : List (Inequality V)) (rows : List (List V)) → All (IsIn n) system → system_size R system ≤ m → IsCanonical R (Solves R n system) rows → HaveSpread R (4 * m * (n - 1)) rows
+  HaveSpread-canonical n m system rows inside bounded canonical k d l =
+      extreme_entries_near n m system (get_or rows k d) inside bounded (canonical.extreme k d l)

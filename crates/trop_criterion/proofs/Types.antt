@@ -5,18 +5,14 @@ use Rattle.trop_theory.specs.Semiring.{Semiring, SemiringLaws, Le}
 use Rattle.trop_theory.specs.Vectors.{entry, dot, Below}
 use Rattle.trop_theory.specs.Inequalities.{Inequality, IsTrueAt, IsIn, Solves}
 use Rattle.trop_theory.specs.Extreme.{IsExtreme, IsType}
-use Rattle.trop_theory.proofs.Order.{le_trans, le_antisym, times_mono, below_zero, left_factor_finite, undo_times, le-plus_left, le-plus_right}
+use Rattle.trop_theory.proofs.Order.{le_trans, le_antisym, times_mono, below_zero, left_factor_finite, undo_times, le-plus_left, le-plus_right, delta_moves, cancel_times}
 use Rattle.trop_theory.proofs.Rows.{same_rows, entry-joined, entry-bottom}
 use Rattle.trop_theory.proofs.Truth.{term_below}
-use Rattle.trop_criterion.specs.Tangents.{KeepsTangent, TangentReaches}
-use Rattle.trop_criterion.proofs.Tests.{test, test_true, true_test, decide_true, decide_not, stable}
-use Rattle.trop_criterion.proofs.Weakened.{weakened, weakened_in, weakened_out, Below-weakened, Solves-weakened, delta_moves, attains_within}
+use Rattle.trop_criterion.proofs.Reaching.{KeepsTangent, TangentReaches}
+use Rattle.plain_lemmas.proofs.Decisions.{test, test_true, true_test, decide_true, decide_not, stable}
+use Rattle.trop_criterion.proofs.Weakened.{weakened, weakened_in, weakened_out, Below-weakened, Solves-weakened, attains_within}
 
 module _ {V : Type 0} {R : Semiring V} (laws : SemiringLaws R) where
-  -- a finite factor cancels
-  cancel_times : (c a b : V) → c ≢ R.zero → R.times c a ≡ R.times c b → a ≡ b
-  cancel_times c a b f e = undo_times laws c a (R.times c b) f (laws.times_comm a c ∙ e) ∙ sym (undo_times laws c b (R.times c b) f (laws.times_comm b c))
-
   -- the coordinates where two vectors differ
   differs : (x y : List V) → (i : ℕ) → (entry R y i ≢ entry R x i) ⊎ ((entry R y i ≢ entry R x i) → ⊥)
   differs x y i = decide_not (laws.discrete (entry R y i) (entry R x i))
@@ -44,7 +40,7 @@ module _ {V : Type 0} {R : Semiring V} (laws : SemiringLaws R) where
           let whole : R.times (entry R p.right r.0) (entry R x r.0) ≡ dot R p.right x = le_antisym laws _ _ down (le_trans laws _ _ _ up step) in
           let part : R.times (entry R p.right r.0) (entry R y r.0) ≡ dot R p.right x = le_antisym laws _ _ (le_trans laws _ _ _ step down) up in
           true_test (differs x y r.0) (tail r.0 whole)
-          (cancel_times (entry R p.right r.0) _ _ (left_factor_finite laws (entry R p.right r.0) (entry R x r.0) (dot R p.right x) whole tight.finite) (part ∙ sym whole))
+          (cancel_times laws (entry R p.right r.0) _ _ (left_factor_finite laws (entry R p.right r.0) (entry R x r.0) (dot R p.right x) whole tight.finite) (part ∙ sym whole))
 
   -- a node that is reached from every node is a type
   pub IsType-reached : (n : ℕ) (system : List (Inequality V)) (x : List V) (t : ℕ) → All (IsIn n) system → Solves R n system x → entry R x t ≢ R.zero → ((u : ℕ) → entry R x u ≢ R.zero → TangentReaches R system x u t) → IsType R (Solves R n system) x t
@@ -67,16 +63,3 @@ module _ {V : Type 0} {R : Semiring V} (laws : SemiringLaws R) where
   reached_from_IsType n system x t inside h u finite set here keeps = stable (decide_true (set t)) (λ out.
       let same = h.least (weakened R set x) (Solves-weakened laws n system set x inside h.member keeps) (Below-weakened laws set x) (weakened_out R set x t out) in
       delta_moves laws (entry R x u) finite (sym (weakened_in laws set x u here) ∙ ap (λ y. entry R y u) same))
-
-  -- a vector with a type is extreme
-  pub IsExtreme-from_type : (n : ℕ) (cone : List V → Type 0) (x : List V) (t : ℕ) → ((y : List V) → cone y → length y ≡ n) → IsType R cone x t → IsExtreme R cone x
-  IsExtreme-from_type n cone x t wide h = record {
-    member = h.member;
-    not_bottom = λ e. h.finite (ap (λ y. entry R y t) e ∙ entry-bottom R (length x) t);
-    unsplit = λ y z in_y in_z sum.
-        let at : (i : ℕ) → entry R x i ≡ R.plus (entry R y i) (entry R z i) = λ i. ap (λ v. entry R v i) sum ∙ entry-joined laws y z (wide y in_y ∙ sym (wide z in_z)) i in
-        ⊎_elim
-        (λ e. inl (sym (h.least y in_y (λ i. subst (Le R (entry R y i)) (sym (at i)) (le-plus_left laws _ _)) (sym e ∙ sym (at t)))))
-        (λ e. inr (sym (h.least z in_z (λ i. subst (Le R (entry R z i)) (sym (at i)) (le-plus_right laws _ _)) (sym e ∙ sym (at t)))))
-        (laws.selective (entry R y t) (entry R z t));
-  }

@@ -7,10 +7,11 @@ use Rattle.std.proofs.lemmas.Bool.{cases_lt}
 use Rattle.trop_theory.specs.Semiring.{Semiring, SemiringLaws, Le}
 use Rattle.trop_theory.specs.Vectors.{entry, dot, Below}
 use Rattle.trop_theory.specs.Inequalities.{Inequality, IsTrueAt, IsIn, Solves}
-use Rattle.trop_theory.proofs.Order.{le_refl, le_trans, le_antisym, times_mono, times_mono_left, times_zero, zero_below, undo_times}
+use Rattle.trop_theory.proofs.Order.{le_refl, le_trans, le_antisym, times_mono, times_mono_left, times_zero, zero_below, undo_times, delta_times, times_swap}
 use Rattle.trop_theory.proofs.Truth.{truth, term_below, some_term}
-use Rattle.trop_criterion.specs.Tangents.{Attains, KeepsTangent}
-use Rattle.trop_criterion.proofs.Tests.{decide_true, decide_not, decide_both, stable, some_below}
+use Rattle.trop_criterion.specs.Tangents.{Attains}
+use Rattle.trop_criterion.proofs.Reaching.{KeepsTangent}
+use Rattle.plain_lemmas.proofs.Decisions.{decide_true, decide_not, decide_both, stable, some_below}
 
 module _ {V : Type 0} (R : Semiring V) where
   -- the entries in the set are multiplied by delta
@@ -33,22 +34,10 @@ module _ {V : Type 0} {R : Semiring V} (laws : SemiringLaws R) where
   weakened_in set (a ∷ x) zero h = ap (λ b. cond b (R.times R.delta a) a) h
   weakened_in set (a ∷ x) (suc i) h = weakened_in (λ i. set (suc i)) x i h
 
-  -- delta times an element is at most the element
-  pub delta_times : (a : V) → Le R (R.times R.delta a) a
-  delta_times a = subst (Le R (R.times R.delta a)) (laws.one_neutral a) (times_mono_left laws a R.delta R.one laws.delta_below)
-
-  -- and differs from it where it is finite
-  pub delta_moves : (a : V) → a ≢ R.zero → R.times R.delta a ≡ a → ⊥
-  delta_moves a f e = laws.delta_differs (undo_times laws a R.delta a f e ∙ laws.invertible a f)
-
-  -- a factor moves across a product
-  pub times_swap : (a b c : V) → R.times a (R.times b c) ≡ R.times b (R.times a c)
-  times_swap a b c = sym (laws.times_assoc a b c) ∙ ap (λ e. R.times e c) (laws.times_comm a b) ∙ laws.times_assoc b a c
-
   pub Below-weakened : (set : ℕ → Bool) (x : List V) → Below R (weakened R set x) x
   Below-weakened set x i =
       ⊎_elim
-      (λ h. subst (λ e. Le R e (entry R x i)) (sym (weakened_in set x i h)) (delta_times (entry R x i)))
+      (λ h. subst (λ e. Le R e (entry R x i)) (sym (weakened_in set x i h)) (delta_times laws (entry R x i)))
       (λ h. subst (λ e. Le R e (entry R x i)) (sym (weakened_out R set x i h)) (le_refl laws _))
       (decide_true (set i))
 
@@ -64,8 +53,8 @@ module _ {V : Type 0} {R : Semiring V} (laws : SemiringLaws R) where
           r.0,
           r.1,
           ⊎_elim
-              (λ h. subst (Le R (R.times R.delta (dot R p.right x))) (ap (R.times R.delta) r.2 ∙ times_swap R.delta _ _ ∙ ap (R.times (entry R p.right r.0)) (sym (weakened_in set x r.0 h))) (le_refl laws _))
-              (λ h. subst (Le R (R.times R.delta (dot R p.right x))) (r.2 ∙ ap (R.times (entry R p.right r.0)) (sym (weakened_out R set x r.0 h))) (delta_times (dot R p.right x)))
+              (λ h. subst (Le R (R.times R.delta (dot R p.right x))) (ap (R.times R.delta) r.2 ∙ times_swap laws R.delta _ _ ∙ ap (R.times (entry R p.right r.0)) (sym (weakened_in set x r.0 h))) (le_refl laws _))
+              (λ h. subst (Le R (R.times R.delta (dot R p.right x))) (r.2 ∙ ap (R.times (entry R p.right r.0)) (sym (weakened_out R set x r.0 h))) (delta_times laws (dot R p.right x)))
               (decide_true (set r.0)),
         )
 
@@ -79,7 +68,7 @@ module _ {V : Type 0} {R : Semiring V} (laws : SemiringLaws R) where
 
     term_in : (i : ℕ) → i < length x → IsTrue (set i) → Le R (R.times (entry R p.left i) (entry R (weakened R set x) i)) (R.times R.delta (dot R p.right x))
     term_in i l h =
-        subst (λ v. Le R v (R.times R.delta (dot R p.right x))) (times_swap R.delta _ _ ∙ ap (R.times (entry R p.left i)) (sym (weakened_in set x i h)))
+        subst (λ v. Le R v (R.times R.delta (dot R p.right x))) (times_swap laws R.delta _ _ ∙ ap (R.times (entry R p.left i)) (sym (weakened_in set x i h)))
         (times_mono laws R.delta _ _ (le_trans laws _ _ _ (term_below laws p.left x left i l) ((truth laws p.left p.right x left right).1 holds)))
 
     -- where all of the tail is weakened, each term of the left is at most delta times the sum

@@ -10,7 +10,8 @@ use Rattle.trop_theory.specs.Normal.{IsNormal, Normalises}
 use Rattle.trop_theory.specs.Inequalities.{Inequality, Solves, IsIn, inequality_size, system_size}
 use Rattle.trop_theory.specs.Extreme.{IsExtreme}
 use Rattle.trop_theory.specs.Canonical.{RowBelow, IsOverLimit}
-use Rattle.trop_theory.specs.Steps.{HoldsOf, mixed}
+use Rattle.trop_theory.specs.Steps.{mixed}
+use Rattle.trop_theory.proofs.Truth.{HoldsOf}
 use Rattle.trop_theory.proofs.Order.{times_one, below_zero, le-plus_right, undo_times}
 use Rattle.trop_theory.proofs.Canonical.{same_from_multiple}
 use Rattle.trop_theory.proofs.Generation.{undo_normal}

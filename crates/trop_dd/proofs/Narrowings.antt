@@ -10,12 +10,13 @@ use Rattle.trop_theory.specs.Normal.{IsNormal, Normalises}
 use Rattle.trop_theory.specs.Inequalities.{Inequality, Solves, IsIn, inequality_size, system_size}
 use Rattle.trop_theory.specs.Extreme.{IsExtreme, IsType}
 use Rattle.trop_theory.specs.Canonical.{row_limit}
-use Rattle.trop_theory.specs.Steps.{HoldsOf, mixed}
+use Rattle.trop_theory.specs.Steps.{mixed}
+use Rattle.trop_theory.proofs.Truth.{HoldsOf, truth}
 use Rattle.trop_theory.proofs.Narrower.{IsNarrowed, narrowed_canonical, narrowed_generates, kept_stays_extreme, Solves-push, Solves-front}
-use Rattle.trop_theory.proofs.Truth.{truth}
 use Rattle.trop_criterion.proofs.Criterion.{reached_from_extreme, type_is_reached}
 use Rattle.trop_dd.proofs.TypedParents.{Parents, kept_or_parents}
-use Rattle.trop_theory.proofs.Distinct.{no_longer, ascending_distinct, fresh_and_kept}
+use Rattle.trop_theory.proofs.Distinct.{ascending_distinct, fresh_and_kept}
+use Rattle.plain_lemmas.proofs.Distinct.{no_longer}
 use Rattle.trop_criterion.proofs.SizeBound.{extreme_row_small}
 use Rattle.trop_dd.specs.declared.splitting.Part.{Part}
 use Rattle.trop_dd.specs.Description.{Describes, CountsNew}

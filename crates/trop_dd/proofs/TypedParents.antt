@@ -12,16 +12,18 @@ use Rattle.trop_theory.specs.Combinations.{IsCombination}
 use Rattle.trop_theory.specs.Inequalities.{Inequality, IsIn, Solves}
 use Rattle.trop_theory.specs.Extreme.{IsType}
 use Rattle.trop_theory.specs.Canonical.{IsCanonical}
-use Rattle.trop_theory.specs.Steps.{HoldsOf, mixed}
+use Rattle.trop_theory.specs.Steps.{mixed}
+use Rattle.trop_theory.proofs.Truth.{HoldsOf, truth, term_below, some_term}
 use Rattle.trop_theory.specs.Residual.{Meets}
 use Rattle.trop_theory.proofs.Order.{le_total, le_trans, le_refl, le_antisym, times_mono, times_mono_left, undo_times, redo_times, zero_below, below_zero, factor_finite, left_factor_finite, le-plus_left, le-plus_right, plus-least}
-use Rattle.trop_theory.proofs.Rows.{ap₂, same_rows, entry-joined, entry-scaled, below_trans}
+use Rattle.trop_theory.proofs.Rows.{same_rows, entry-joined, entry-scaled, below_trans}
+use Rattle.std.proofs.Common.{ap₂}
 use Rattle.trop_theory.proofs.Combinations.{IsCombination-length, IsCombination-joined, IsCombination-scaled}
 use Rattle.trop_theory.proofs.StepLaws.{dot-scaled, HoldsOf-scaled, HoldsOf-mixed}
-use Rattle.trop_theory.proofs.Truth.{truth, term_below, some_term}
 use Rattle.trop_theory.proofs.Narrower.{Solves-push, Solves-front, Solves-last}
 use Rattle.trop_theory.proofs.Residual.{met_from_IsCombination}
-use Rattle.trop_theory.proofs.Decided.{Decided, Meets-decided}
+use Rattle.trop_theory.proofs.Decided.{Meets-decided}
+use Rattle.plain_lemmas.proofs.Decisions.{Decided}
 use Rattle.trop_theory.proofs.Canonical.{same_from_multiple}
 use Rattle.trop_theory.proofs.SameCones.{IsCombination-contained}
 

@@ -8,7 +8,8 @@ use Rattle.trop_theory.specs.Semiring.{Semiring, SemiringLaws}
 use Rattle.trop_theory.specs.Normal.{IsNormal}
 use Rattle.trop_theory.specs.Combinations.{IsCombination}
 use Rattle.trop_theory.specs.Canonical.{RowBelow}
-use Rattle.trop_theory.proofs.Canonical.{All-remove, All-IsCombination, IsCombination-least, IsCombination-remove, remove-remove}
+use Rattle.trop_theory.proofs.Canonical.{All-IsCombination, IsCombination-least, IsCombination-remove}
+use Rattle.plain_lemmas.proofs.Lists.{remove-remove, All-remove}
 use Rattle.trop_row.specs.Reduction.{Kept}
 use Rattle.trop_row.proofs.Others.{rows_size-remove}
 

@@ -5,7 +5,7 @@ use Rattle.std.specs.declared.cmp.Ordering.TheVariants.{Less, Greater}
 use Rattle.std.specs.Ordering.{ordering_then}
 use Rattle.std.specs.Cmp.Lexicographic.{slice_cmp}
 use Rattle.std.proofs.lemmas.List.{drop_more, drop_all}
-use Rattle.trop_theory.proofs.Rows.{ap₂}
+use Rattle.std.proofs.Common.{ap₂}
 
 module _ {X : Type 0} (cmp : X → X → Ordering) (a b : List X) (i : ℕ) where
   pub past_second : i < length a → length b ≤ i → slice_cmp cmp (drop i a) (drop i b) ≡ slice_cmp cmp a b → (d : X) → Greater ≡ slice_cmp cmp a b

@@ -7,7 +7,8 @@ use Rattle.trop_theory.specs.Semiring.{Semiring, SemiringLaws}
 use Rattle.trop_theory.specs.Vectors.{entry, AreWide, rows_size}
 use Rattle.trop_theory.specs.Combinations.{IsCombination}
 use Rattle.trop_theory.specs.Residual.{Meets}
-use Rattle.trop_theory.proofs.Residual.{IsCombination_from_met, Any-cons}
+use Rattle.trop_theory.proofs.Residual.{IsCombination_from_met}
+use Rattle.plain_lemmas.proofs.Lists.{Any-cons}
 
 pub rows_size-take : {V : Type 0} (R : Semiring V) (k : ℕ) (rows : List (List V)) → rows_size R (take k rows) ≤ rows_size R rows
 rows_size-take R zero rows = omega arith

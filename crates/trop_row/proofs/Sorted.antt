@@ -17,7 +17,7 @@ use Rattle.trop_theory.specs.Normal.{IsNormal}
 use Rattle.trop_theory.specs.Combinations.{SameCone}
 use Rattle.trop_theory.specs.Canonical.{RowBelow}
 use Rattle.trop_theory.specs.Compare.{compare, compare_rows}
-use Rattle.trop_theory.proofs.Rows.{ap₂}
+use Rattle.std.proofs.Common.{ap₂}
 use Rattle.trop_theory.proofs.CompareLaws.{compare_rows_total, RowBelow-from_Less, from_Equal}
 use Rattle.trop_theory.proofs.SameCones.{SameCone-from_contains}
 use Rattle.trop_row.proofs.Steps.{rows_size-at}

@@ -10,7 +10,8 @@ use Rattle.trop_theory.specs.Residual.{Meets}
 use Rattle.std.specs.Prelude.{Any}
 use Rattle.trop_theory.proofs.Residual.{IsCombination_from_met, none_meets, meets_from_below, below_from_meets}
 use Rattle.trop_theory.proofs.Order.{times_zero, zero_below}
-use Rattle.trop_theory.proofs.Rows.{entry-scaled, ap₂}
+use Rattle.trop_theory.proofs.Rows.{entry-scaled}
+use Rattle.std.proofs.Common.{ap₂}
 use Rattle.trop_theory.proofs.Sizes.{entry_read, size-entry}
 
 -- after i entries the next one still stands

@@ -17,7 +17,7 @@ mod tests;
 
 pub use gens::Gens;
 pub use inequality::Ineq;
-pub use membership::member;
+pub use membership::{first_unmet, meets, member, some_meets};
 pub use reduction::reduce;
 pub use row::Row;
 pub use step::step_all;

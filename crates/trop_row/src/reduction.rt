@@ -8,7 +8,7 @@ ghost use Rattle.trop_row.specs.Reduction.{AreReducible, NormalRows};
 
 use crate::entries::is_zero;
 use crate::gens::Gens;
-use crate::membership::some_meets;
+use crate::membership::some_meets_of;
 use crate::row::Row;
 use std::alloc::{AllocError, Global};
 use trop_scalar::Scalar;
@@ -25,7 +25,7 @@ fn others_meet<S: Scalar>(rows: &[Row<S>], k: usize, target: &[S], t: usize) -> 
     requires target_size { row_size S.ring target.now ≤ 2 ^ 60 }
     ensures { IsTrue result ↔ Any (Meets S.ring target.now t) (remove rows.now k) }
 {
-    some_meets(&rows[k + 1..], target, t) || some_meets(&rows[..k], target, t)
+    some_meets_of(&rows[k + 1..], target, t) || some_meets_of(&rows[..k], target, t)
 }
 
 // Whether the row at k is a combination of the others.

@@ -9,12 +9,14 @@ use Rattle.trop_theory.specs.Inequalities.{Inequality, IsIn, Solves}
 use Rattle.trop_theory.specs.Extreme.{IsExtreme, IsType}
 use Rattle.trop_theory.proofs.Rows.{same_rows, entry-bottom}
 use Rattle.trop_criterion.specs.Hypergraphs.{Has, Hypergraph, IsGreatest}
-use Rattle.trop_criterion.specs.Tangents.{AreTangents, IsReachedFromAll}
-use Rattle.trop_criterion.proofs.Tests.{some_below, decide_not, stable}
-use Rattle.trop_criterion.proofs.Words.{decide_has, has_within}
+use Rattle.trop_criterion.specs.Tangents.{AreTangents}
+use Rattle.trop_criterion.proofs.Reaching.{IsReachedFromAll}
+use Rattle.plain_lemmas.proofs.Decisions.{some_below, decide_not, stable}
+use Rattle.trop_criterion.proofs.Hypergraphs.{decide_has}
+use Rattle.trop_hyper.proofs.Words.{has_within}
 use Rattle.trop_criterion.proofs.Edges.{Reaches-tangents}
 use Rattle.trop_criterion.proofs.Criterion.{type_is_reached, extreme_is_reached}
-use Rattle.trop_tangent.proofs.Attaining.{IsFinite}
+use Rattle.trop_tangent.proofs.Attained.{IsFinite}
 
 -- whether a property holds that holds exactly where a set has a member
 pub holds_where_some : (P : Type 0) (set : ℕ) (none : Bool) → set < 2 ^ 64 → P ↔ ((t : ℕ) × Has set t) → (IsTrue none ↔ ((i : ℕ) → Has set i → ⊥)) → IsTrue (not none) ↔ P

@@ -8,11 +8,12 @@ use Rattle.std.proofs.lemmas.Bool.{cases_lt}
 use Rattle.trop_theory.specs.Semiring.{Semiring}
 use Rattle.trop_theory.specs.Inequalities.{Inequality}
 use Rattle.trop_criterion.specs.Hypergraphs.{Has, IsSubset, Hyperedge}
-use Rattle.trop_criterion.specs.Tangents.{Attains, IsTight, TangentEdge, IsTangentOf, KeepsTangent, TangentReaches, IsClosedAt, IsReachedFromAll}
-use Rattle.trop_criterion.proofs.Tests.{test_true, true_test}
-use Rattle.trop_criterion.proofs.Words.{member, decide_has}
-use Rattle.trop_criterion.proofs.Growth.{IsGrown, IsGrown-skip, IsGrown-take, IsRound, IsLast}
-use Rattle.trop_tangent.proofs.Attaining.{IsFinite}
+use Rattle.trop_criterion.specs.Tangents.{Attains, IsTight, TangentEdge, IsTangentOf, IsClosedAt}
+use Rattle.trop_criterion.proofs.Reaching.{KeepsTangent, TangentReaches, IsReachedFromAll}
+use Rattle.plain_lemmas.proofs.Decisions.{test_true, true_test}
+use Rattle.trop_criterion.proofs.Hypergraphs.{member, decide_has}
+use Rattle.trop_hyper.proofs.Rounds.{IsGrown, IsGrown-skip, IsGrown-take, IsRound, IsLast}
+use Rattle.trop_tangent.proofs.Attained.{IsFinite}
 
 module _ {V : Type 0} (R : Semiring V) (system : List (Inequality V)) (x : List V) where
   pub TangentReaches-itself : (u : ℕ) → TangentReaches R system x u u

@@ -11,13 +11,13 @@ use Rattle.trop_theory.specs.Normal.{IsNormal}
 use Rattle.trop_theory.specs.Combinations.{combined, IsCombination}
 use Rattle.trop_theory.specs.Extreme.{IsExtreme}
 use Rattle.trop_theory.specs.Canonical.{RowBelow, IsCanonical}
-use Rattle.trop_theory.proofs.Order.{swap_middle, le_trans, le-plus_left, le-plus_right, plus-least, below_zero, le_antisym, times_one, times_mono_left, undo_times, left_factor_finite, times_zero}
-use Rattle.trop_theory.proofs.Rows.{ap₂, same_rows, entry-joined, entry-scaled, entry-bottom, length-joined, joined_assoc, joined_comm, scaled_one}
+use Rattle.trop_theory.proofs.Order.{le_trans, le-plus_left, le-plus_right, plus-least, below_zero, le_antisym, times_one, times_mono_left, undo_times, left_factor_finite, times_zero}
+use Rattle.plain_lemmas.proofs.Operations.{swap_middle}
+use Rattle.trop_theory.proofs.Rows.{same_rows, entry-joined, entry-scaled, entry-bottom, length-joined, joined_assoc, joined_comm, scaled_one}
+use Rattle.std.proofs.Common.{ap₂}
 use Rattle.trop_theory.proofs.Combinations.{IsCombination-length, IsCombination-bottom, IsCombination-joined, IsCombination-scaled}
-use Rattle.trop_theory.proofs.Residual.{IsCombination-at, Any-head, Any-cons}
-
-pub All-remove : {X : Type 0} (P : X → Type 0) (xs : List X) (k : ℕ) → All P xs → All P (remove xs k)
-All-remove P xs k h = All-append P _ _ (All-take P k xs h) (All-drop P (suc k) xs h)
+use Rattle.trop_theory.proofs.Residual.{IsCombination-at}
+use Rattle.plain_lemmas.proofs.Lists.{Any-head, Any-cons, All-remove}
 
 module _ {V : Type 0} {R : Semiring V} (laws : SemiringLaws R) where
   -- a value that is the sum of small multiples of itself and of others is the sum of the others
@@ -211,16 +211,6 @@ module _ {V : Type 0} {R : Semiring V} (laws : SemiringLaws R) (n : ℕ) where
       let same : x ≡ g = same_from_multiple x g found.4.0 hx (subst (IsNormal R) found.3 (normal found.0 g found.2)) found.4.1 in
       (found.0, found.2, get_or_default rows found.0 x g found.2 ∙ found.3 ∙ sym same)
 
--- two removals, in either order
-pub remove-remove : {X : Type 0} (xs : List X) (j k : ℕ) → j ≤ k → remove (remove xs (suc k)) j ≡ remove (remove xs j) k
-remove-remove [] zero zero h = refl
-remove-remove [] zero (suc k) h = refl
-remove-remove [] (suc j) zero h = refl
-remove-remove [] (suc j) (suc k) h = refl
-remove-remove (x ∷ xs) zero k h = refl
-remove-remove (x ∷ xs) (suc j) zero h = absurd (omega arith)
-remove-remove (x ∷ xs) (suc j) (suc k) h = ap (λ w. x ∷ w) (remove-remove xs j k (omega arith))
-
 module _ {V : Type 0} {R : Semiring V} where
   pub IsExtreme-same : (C D : List V → Type 0) → ((x : List V) → C x ↔ D x) → (x : List V) → IsExtreme R C x → IsExtreme R D x
   IsExtreme-same C D e x h = record {
@@ -274,12 +264,3 @@ module _ {V : Type 0} {R : Semiring V} (laws : SemiringLaws R) (n : ℕ) where
           after (inr q) h' =
               let same : k ≡ j = omega arith in
               subst (IsCombination R n (remove rows k)) (get_or_default rows k d e l ∙ ap (λ v. get_or rows v e) same) h
-
-  -- a row that no others give stays so where a later row goes
-  pub alone_kept : (rows : List (List V)) (j k : ℕ) (d : List V) → All (λ g. length g ≡ n) rows → j < k → k < length rows → (IsCombination R n (remove rows j) (get_or rows j d) → ⊥) → IsCombination R n (remove (remove rows k) j) (get_or (remove rows k) j d) → ⊥
-  alone_kept rows j zero d w jk l alone h = absurd (omega arith)
-  alone_kept rows j (suc k) d w jk l alone h =
-      let others_wide : All (λ g. length g ≡ n) (remove rows j) = All-remove (λ g. length g ≡ n) rows j w in
-      let moved : IsCombination R n (remove (remove rows j) k) (get_or rows j d) =
-      subst (λ v. IsCombination R n v (get_or rows j d)) (remove-remove rows j k (omega arith)) (subst (IsCombination R n (remove (remove rows (suc k)) j)) (get_or-remove_below rows (suc k) d j jk l) h) in
-      alone (IsCombination-least laws n (remove (remove rows j) k) (remove rows j) (get_or rows j d) others_wide (All-remove (IsCombination R n (remove rows j)) (remove rows j) k (All-IsCombination laws n (remove rows j) others_wide)) moved)

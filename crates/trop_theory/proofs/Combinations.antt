@@ -6,8 +6,9 @@ use Rattle.std.proofs.lemmas.List.Elements.{All-head, All-tail}
 use Rattle.trop_theory.specs.Semiring.{Semiring, SemiringLaws}
 use Rattle.trop_theory.specs.Vectors.{scaled, joined, bottom}
 use Rattle.trop_theory.specs.Combinations.{combined, IsCombination}
-use Rattle.trop_theory.proofs.Order.{swap_middle}
-use Rattle.trop_theory.proofs.Rows.{ap₂, length-joined, joined_assoc, joined_comm, scaled-joined, scaled-scaled, scaled_plus, scaled-bottom, scaled_zero, scaled_one, joined_bottom}
+use Rattle.plain_lemmas.proofs.Operations.{swap_middle}
+use Rattle.trop_theory.proofs.Rows.{length-joined, joined_assoc, joined_comm, scaled-joined, scaled-scaled, scaled_plus, scaled-bottom, scaled_zero, scaled_one, joined_bottom}
+use Rattle.std.proofs.Common.{ap₂}
 
 module _ {V : Type 0} {R : Semiring V} (laws : SemiringLaws R) (n : ℕ) where
   pub length-combined : (cs : List V) (rows : List (List V)) → All (λ g. length g ≡ n) rows → length (combined R n cs rows) ≡ n

@@ -8,34 +8,9 @@ use Rattle.trop_theory.specs.Vectors.{entry, scaled, Below}
 use Rattle.trop_theory.specs.Combinations.{IsCombination}
 use Rattle.trop_theory.specs.Residual.{Meets}
 use Rattle.trop_theory.proofs.Order.{zero_below}
-use Rattle.trop_theory.proofs.Residual.{Any-head, Any-cons, met_from_IsCombination, IsCombination_from_met, none_meets, meets_from_below, below_from_meets}
-
--- a fact or its negation
-abbrev pub Decided : Type 0 → Type 0
-Decided P = P ⊎ (P → ⊥)
-
--- each number below m, or one that fails
-pub all_or_some : (P : ℕ → Type 0) → ((i : ℕ) → Decided (P i)) → (m : ℕ) → ((i : ℕ) → i < m → P i) ⊎ ((i : ℕ) × (i < m) × (P i → ⊥))
-all_or_some P d zero = inl (λ i l. absurd (omega arith))
-all_or_some P d (suc m) = ⊎_elim all some (all_or_some P d m)
-  where
-    all : ((i : ℕ) → i < m → P i) → ((i : ℕ) → i < suc m → P i) ⊎ ((i : ℕ) × (i < suc m) × (P i → ⊥))
-    all h = ⊎_elim
-        (λ p. inl (λ i l. ⊎_elim (λ q. h i q) (λ q. let e : m ≡ i = omega arith in subst P e p) (cases_lt i m)))
-        (λ p. inr (m, omega arith, p))
-        (d m)
-
-    some : (i : ℕ) × (i < m) × (P i → ⊥) → ((i : ℕ) → i < suc m → P i) ⊎ ((i : ℕ) × (i < suc m) × (P i → ⊥))
-    some s = inr (s.0, omega (arith, s.1), s.2)
-
--- some element of a list
-pub Any-decided : {X : Type 0} (P : X → Type 0) → ((x : X) → Decided (P x)) → (xs : List X) → Decided (Any P xs)
-Any-decided P d [] = inr (λ h. let l = h.2 in absurd (omega arith))
-Any-decided P d (x ∷ xs) = ⊎_elim (λ p. inl (Any-head P x xs p)) (λ np. ⊎_elim (λ q. inl (Any-cons P x xs q)) (λ nq. inr (λ h. neither np nq h.0 h.1 h.2 h.3 h.4)) (Any-decided P d xs)) (d x)
-  where
-    neither : (P x → ⊥) → (Any P xs → ⊥) → (k : ℕ) (y : _) → k < length (x ∷ xs) → get_or (x ∷ xs) k y ≡ y → P y → ⊥
-    neither np nq zero y l e p = np (subst P (sym e) p)
-    neither np nq (suc k) y l e p = nq (k, y, omega arith, e, p)
+use Rattle.trop_theory.proofs.Residual.{met_from_IsCombination, IsCombination_from_met, none_meets, meets_from_below, below_from_meets}
+use Rattle.plain_lemmas.proofs.Lists.{Any-head, Any-cons, Any-decided}
+use Rattle.plain_lemmas.proofs.Decisions.{Decided, all_or_some}
 
 module _ {V : Type 0} {R : Semiring V} (laws : SemiringLaws R) where
   pub Below-decided : (x y : List V) → Decided (Below R x y)

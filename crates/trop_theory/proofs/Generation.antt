@@ -14,11 +14,14 @@ use Rattle.trop_theory.specs.Combinations.{IsCombination}
 use Rattle.trop_theory.specs.Extreme.{IsExtreme}
 use Rattle.trop_theory.specs.Canonical.{IsCanonical}
 use Rattle.trop_theory.proofs.Order.{times_zero, factor_finite}
-use Rattle.trop_theory.proofs.Rows.{ap₂, scaled-scaled, scaled_one}
+use Rattle.trop_theory.proofs.Rows.{scaled-scaled, scaled_one}
+use Rattle.std.proofs.Common.{ap₂}
 use Rattle.trop_theory.proofs.Combinations.{IsCombination-length, IsCombination-bottom, IsCombination-scaled, IsCombination-cons, IsCombination-head}
-use Rattle.trop_theory.proofs.Canonical.{All-remove, IsCombination-least, IsCombination-remove, IsExtreme-same, extreme_from_alone}
+use Rattle.trop_theory.proofs.Canonical.{IsCombination-least, IsCombination-remove, IsExtreme-same, extreme_from_alone}
+use Rattle.plain_lemmas.proofs.Lists.{All-remove}
 use Rattle.trop_theory.proofs.SameCones.{IsCombination-contained}
-use Rattle.trop_theory.proofs.Decided.{Decided, all_or_some, IsCombination-decided}
+use Rattle.trop_theory.proofs.Decided.{IsCombination-decided}
+use Rattle.plain_lemmas.proofs.Decisions.{Decided, all_or_some}
 
 module _ {V : Type 0} {R : Semiring V} (laws : SemiringLaws R) where
   -- each vector is bottom or has a normal form

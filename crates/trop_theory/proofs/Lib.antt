@@ -1,4 +1,5 @@
 pub mod Order
+pub mod Types
 pub mod Rows
 pub mod Combinations
 pub mod Residual

@@ -11,92 +11,18 @@ use Rattle.trop_theory.specs.Inequalities.{Inequality, IsTrueAt, Solves, IsIn}
 use Rattle.trop_theory.specs.Combinations.{IsCombination}
 use Rattle.trop_theory.specs.Extreme.{IsExtreme}
 use Rattle.trop_theory.specs.Canonical.{RowBelow, IsCanonical}
-use Rattle.trop_theory.specs.Steps.{HoldsOf, mixed, IsStep}
+use Rattle.trop_theory.specs.Steps.{mixed}
+use Rattle.trop_theory.proofs.Truth.{HoldsOf, truth}
+use Rattle.trop_theory.proofs.StepComplete.{IsStep}
 use Rattle.trop_theory.proofs.Order.{le_total, left_factor_finite}
 use Rattle.trop_theory.proofs.Rows.{length-joined, entry-scaled}
 use Rattle.trop_theory.proofs.Combinations.{IsCombination-scaled, IsCombination-joined}
 use Rattle.trop_theory.proofs.Canonical.{multiple_from_extreme, same_from_multiple, IsExtreme-same}
 use Rattle.trop_theory.proofs.StepLaws.{HoldsOf-scaled, HoldsOf-mixed}
 use Rattle.trop_theory.proofs.StepSound.{step_is_guard}
-use Rattle.trop_theory.proofs.Truth.{truth}
-use Rattle.trop_theory.proofs.Decided.{Decided}
+use Rattle.plain_lemmas.proofs.Decisions.{Decided}
 use Rattle.trop_theory.proofs.Generation.{canonical_generates}
-
--- the elements of a list that a decided test chooses
-pub record Chosen {X : Type 0} (P : X → Type 0) (xs : List X) : Type 0 where
-  pub chosen : List X
-  pub there : (x : X) → Contains xs x → P x → Contains chosen x
-  pub back : (x : X) → Contains chosen x → Contains xs x × P x
-
-module _ {X : Type 0} where
-  pub Contains-cons : (y : X) (xs : List X) (x : X) → Contains xs x → Contains (y ∷ xs) x
-  Contains-cons y xs x h = (suc h.0, omega (arith, h.1), h.2)
-
-  pub Contains-cons_cases : (y : X) (xs : List X) (x : X) → Contains (y ∷ xs) x → (y ≡ x) ⊎ Contains xs x
-  Contains-cons_cases y xs x h = at h.0 h.1 h.2
-    where
-      at : (k : ℕ) → k < length (y ∷ xs) → get_or (y ∷ xs) k x ≡ x → (y ≡ x) ⊎ Contains xs x
-      at zero l e = inl e
-      at (suc k) l e = inr (k, omega arith, e)
-
-  pub Contains-none : (x : X) → Contains [] x → ⊥
-  Contains-none x h = let l = h.1 in omega arith
-
-  pub chosen_of : (P : X → Type 0) → ((x : X) → Decided (P x)) → (xs : List X) → Chosen P xs
-  chosen_of P d [] = record {
-    chosen = [];
-    there = λ x h p. h;
-    back = λ x h. absurd (Contains-none x h);
-  }
-  chosen_of P d (y ∷ xs) = ⊎_elim
-      (λ p.
-      let r = chosen_of P d xs in
-      record {
-        chosen = y ∷ r.chosen;
-        there = λ x h q. ⊎_elim (λ e. (0, omega arith, e)) (λ t. Contains-cons y r.chosen x (r.there x t q)) (Contains-cons_cases y xs x h);
-        back = λ x h. ⊎_elim (λ e. ((0, omega arith, e), subst P e p)) (λ t. (Contains-cons y xs x (r.back x t).0, (r.back x t).1)) (Contains-cons_cases y r.chosen x h);
-      })
-      (λ np.
-      let r = chosen_of P d xs in
-      record {
-        chosen = r.chosen;
-        there = λ x h q. ⊎_elim (λ e. absurd (np (subst P (sym e) q))) (λ t. r.there x t q) (Contains-cons_cases y xs x h);
-        back = λ x h. (Contains-cons y xs x (r.back x h).0, (r.back x h).1);
-      })
-      (d y)
-
--- f of each element of the first list and each of the second
-products : {X : Type 0} → (X → X → X) → List X → List X → List X
-products f [] ys = []
-products f (x ∷ xs) ys = map (f x) ys ++ products f xs ys
-
-module _ {X : Type 0} (f : X → X → X) where
-  Contains-map : (g : X → X) (ys : List X) (y : X) → Contains ys y → Contains (map g ys) (g y)
-  Contains-map g [] y h = absurd (Contains-none y h)
-  Contains-map g (z ∷ ys) y h = ⊎_elim (λ e. (0, omega arith, ap g e)) (λ t. Contains-cons (g z) (map g ys) (g y) (Contains-map g ys y t)) (Contains-cons_cases z ys y h)
-
-  from_map : (g : X → X) (ys : List X) (z : X) → Contains (map g ys) z → (y : X) × Contains ys y × (z ≡ g y)
-  from_map g [] z h = absurd (Contains-none z h)
-  from_map g (w ∷ ys) z h = ⊎_elim
-      (λ e. (w, (0, omega arith, refl), sym e))
-      (λ t. let r = from_map g ys z t in (r.0, Contains-cons w ys r.0 r.1, r.2))
-      (Contains-cons_cases (g w) (map g ys) z h)
-
-  Contains-products : (xs ys : List X) (x y : X) → Contains xs x → Contains ys y → Contains (products f xs ys) (f x y)
-  unfolding products
-  Contains-products [] ys x y h k = absurd (Contains-none x h)
-  Contains-products (z ∷ xs) ys x y h k = ⊎_elim
-      (λ e. subst (λ w. Contains (map (f z) ys ++ products f xs ys) (f w y)) e (Contains-append_left (map (f z) ys) (products f xs ys) (f z y) (Contains-map (f z) ys y k)))
-      (λ t. Contains-append_right (map (f z) ys) (products f xs ys) (f x y) (Contains-products xs ys x y t k))
-      (Contains-cons_cases z xs x h)
-
-  from_products : (xs ys : List X) (z : X) → Contains (products f xs ys) z → (x : X) × (y : X) × Contains xs x × Contains ys y × (z ≡ f x y)
-  unfolding products
-  from_products [] ys z h = absurd (Contains-none z h)
-  from_products (w ∷ xs) ys z h = ⊎_elim
-      (λ t. let r = from_map (f w) ys z t in (w, r.0, (0, omega arith, refl), r.1, r.2))
-      (λ t. let r = from_products xs ys z t in (r.0, r.1, Contains-cons w xs r.0 r.2, r.3, r.4))
-      (Contains-append_cases (map (f w) ys) (products f xs ys) z h)
+use Rattle.plain_lemmas.proofs.Lists.{Chosen, chosen_of, Contains-products, from_products, products}
 
 module _ {V : Type 0} {R : Semiring V} where
   -- an extreme vector of a cone that lies in a smaller cone is extreme there

@@ -7,17 +7,11 @@ use Rattle.std.proofs.lemmas.Bool.{cases_lt}
 use Rattle.trop_theory.specs.Semiring.{Semiring, SemiringLaws, Le}
 use Rattle.trop_theory.specs.Vectors.{entry, scaled, joined, bottom, Below}
 use Rattle.trop_theory.specs.Combinations.{combined, IsCombination}
-use Rattle.trop_theory.specs.Residual.{Meets}
+use Rattle.trop_theory.specs.Residual.{Meets, IsFirstUnmet}
 use Rattle.trop_theory.proofs.Order.{le_refl, le_trans, le-plus_left, le-plus_right, plus-least, zero_below, below_zero, le_antisym, factor_finite, undo_times, redo_times}
 use Rattle.trop_theory.proofs.Rows.{same_rows, entry-joined, entry-scaled, entry-bottom}
 use Rattle.trop_theory.proofs.Combinations.{length-combined, IsCombination-length, IsCombination-bottom, IsCombination-joined, IsCombination-scaled, IsCombination-cons, IsCombination-head}
-
--- one more element in front
-pub Any-cons : {X : Type 0} (P : X → Type 0) (y : X) (xs : List X) → Any P xs → Any P (y ∷ xs)
-Any-cons P y xs h = (suc h.0, h.1, omega (arith, h.2), h.3, h.4)
-
-pub Any-head : {X : Type 0} (P : X → Type 0) (y : X) (xs : List X) → P y → Any P (y ∷ xs)
-Any-head P y xs h = (0, y, omega arith, refl, h)
+use Rattle.plain_lemmas.proofs.Lists.{Any-cons, Any-head}
 
 module _ {V : Type 0} {R : Semiring V} (laws : SemiringLaws R) (n : ℕ) where
   -- a row of the list is a combination
@@ -126,3 +120,7 @@ module _ {V : Type 0} {R : Semiring V} (laws : SemiringLaws R) where
   pub below_from_meets : (x g : List V) (t : ℕ) → entry R g t ≢ R.zero → Meets R x t g → Below R (scaled R (R.times (entry R x t) (R.inverse (entry R g t))) g) x
   below_from_meets x g t f m =
       subst (λ c. Below R (scaled R c g) x) (undo_times laws (entry R g t) m.multiple (entry R x t) f m.meets) m.below
+
+  -- a vector with a coordinate that no row meets is no combination
+  pub unmet_apart : (n : ℕ) (rows : List (List V)) (x : List V) (t : ℕ) → All (λ g. length g ≡ n) rows → IsFirstUnmet R rows x t → IsCombination R n rows x → ⊥
+  unmet_apart n rows x t w h c = h.unmet (met_from_IsCombination laws n rows x w c t h.finite)

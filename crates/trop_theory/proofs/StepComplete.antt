@@ -1,18 +1,26 @@
 -- Each combination that the inequality holds of is a combination of the rows that the step gives.
-use Rattle.std.proofs.Common.{◌≡◌, ◌≢◌, ℕ, zero, suc, List, [], ◌∷◌, length, ⊎_elim, sym, ap, ◌∙◌, refl, arith, subst, get_or}
+use Rattle.std.proofs.Common.{◌≡◌, ◌≢◌, ℕ, zero, suc, List, [], ◌∷◌, length, ⊎_elim, sym, ap, ◌∙◌, refl, arith, subst, get_or, ◌⊎◌}
 use Rattle.std.specs.Prelude.{All, Contains}
 use Rattle.std.proofs.lemmas.List.{length-map, length-replicate, get_or_default}
 use Rattle.std.proofs.lemmas.List.Elements.{All-head, All-tail, All-cons, All-nil, All-contains}
 use Rattle.trop_theory.specs.Semiring.{Semiring, SemiringLaws, Le}
 use Rattle.trop_theory.specs.Vectors.{scaled, joined, bottom, dot}
 use Rattle.trop_theory.specs.Combinations.{combined, IsCombination}
-use Rattle.trop_theory.specs.Steps.{HoldsOf, mixed, IsStep}
+use Rattle.trop_theory.specs.Steps.{mixed}
+use Rattle.trop_theory.proofs.Truth.{HoldsOf}
 use Rattle.trop_theory.proofs.Order.{plus_itself, le_trans, le_total, le-plus_left, le-plus_right, times_mono, times_mono_left, plus_zero, times_zero, zero_below, below_zero, factor_finite, left_factor_finite, redo_times, undo_times, times_one}
-use Rattle.trop_theory.proofs.Rows.{ap₂, joined_assoc, joined_comm, scaled-joined, scaled-scaled, scaled_plus, scaled_zero, joined_bottom}
+use Rattle.trop_theory.proofs.Rows.{joined_assoc, joined_comm, scaled-joined, scaled-scaled, scaled_plus, scaled_zero, joined_bottom}
+use Rattle.std.proofs.Common.{ap₂}
 use Rattle.trop_theory.proofs.Combinations.{length-combined, IsCombination-joined, IsCombination-scaled}
 use Rattle.trop_theory.proofs.Canonical.{IsCombination-least}
 use Rattle.trop_theory.proofs.SameCones.{IsCombination-contained}
 use Rattle.trop_theory.proofs.StepLaws.{dot-joined, dot-scaled}
+
+-- The rows that the step gives: each kept row, and each mixed row of a kept one with b.v finite and a dropped one.
+pub record IsStep {V : Type 0} (R : Semiring V) (a b : List V) (rows others : List (List V)) : Type 0 where
+  pub kept : (v : List V) → Contains rows v → HoldsOf R a b v → Contains others v
+  pub mixes : (v w : List V) → Contains rows v → Contains rows w → HoldsOf R a b v → dot R b v ≢ R.zero → (HoldsOf R a b w → ⊥) → Contains others (mixed R a b v w)
+  pub only : (x : List V) → Contains others x → (Contains rows x × HoldsOf R a b x) ⊎ ((v : List V) × (w : List V) × Contains rows v × Contains rows w × HoldsOf R a b v × (HoldsOf R a b w → ⊥) × (x ≡ mixed R a b v w))
 
 module _ {V : Type 0} {R : Semiring V} (laws : SemiringLaws R) where
   joined_itself : (x : List V) → joined R x x ≡ x

@@ -2,9 +2,11 @@
 use Rattle.std.proofs.Common.{◌≡◌, List, [], ◌∷◌, length, sym, ap, ◌∙◌, arith, subst}
 use Rattle.trop_theory.specs.Semiring.{Semiring, SemiringLaws, Le}
 use Rattle.trop_theory.specs.Vectors.{scaled, joined, dot}
-use Rattle.trop_theory.specs.Steps.{HoldsOf, mixed}
-use Rattle.trop_theory.proofs.Order.{le_refl, le_trans, le-plus_left, le-plus_right, plus-least, times_mono, plus_zero, times_zero, swap_middle}
-use Rattle.trop_theory.proofs.Rows.{ap₂}
+use Rattle.trop_theory.specs.Steps.{mixed}
+use Rattle.trop_theory.proofs.Truth.{HoldsOf}
+use Rattle.trop_theory.proofs.Order.{le_refl, le_trans, le-plus_left, le-plus_right, plus-least, times_mono, plus_zero, times_zero}
+use Rattle.plain_lemmas.proofs.Operations.{swap_middle}
+use Rattle.std.proofs.Common.{ap₂}
 use Rattle.std.proofs.lemmas.List.{length-map}
 
 module _ {V : Type 0} {R : Semiring V} (laws : SemiringLaws R) where

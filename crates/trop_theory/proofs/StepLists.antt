@@ -9,15 +9,16 @@ use Rattle.trop_theory.specs.Vectors.{dot, AreWide}
 use Rattle.trop_theory.specs.Normal.{Normalises}
 use Rattle.trop_theory.specs.Inequalities.{Inequality, IsTrueAt, InGuard, IsIn}
 use Rattle.trop_theory.specs.Combinations.{IsCombination, SameCone}
-use Rattle.trop_theory.specs.Steps.{HoldsOf, mixed}
+use Rattle.trop_theory.specs.Steps.{mixed}
+use Rattle.trop_theory.proofs.Truth.{HoldsOf, truth}
 use Rattle.trop_theory.specs.StepList.{AreChosen, AreMixedOf, AreMixed, IsStepList}
 use Rattle.trop_theory.proofs.Rows.{length-joined}
 use Rattle.trop_theory.proofs.Combinations.{IsCombination-length, IsCombination-scaled}
 use Rattle.trop_theory.proofs.SameCones.{IsCombination-same, IsCombination-contained}
 use Rattle.trop_theory.proofs.StepSound.{step_is_guard}
-use Rattle.trop_theory.proofs.Truth.{truth}
 use Rattle.trop_theory.proofs.Generation.{undo_normal}
-use Rattle.trop_theory.proofs.Narrower.{Stepped, stepped, Contains-cons, Contains-cons_cases, Contains-none}
+use Rattle.trop_theory.proofs.Narrower.{Stepped, stepped}
+use Rattle.plain_lemmas.proofs.Lists.{Contains-cons, Contains-cons_cases, Contains-none, back_in_zip, there_in_zip}
 
 module _ {X : Type 0} (P : X → Type 0) where
   pub Contains-chosen : (xs ys : List X) → AreChosen P xs ys → (x : X) → Contains xs x → P x → Contains ys x
@@ -71,24 +72,6 @@ module _ {X : Type 0} (P : X → Type 0) where
       (λ k. inl (k.0, (k.1.0, k.1.1, chosen_skip xs k.1.0 x k.1.2 p)))
       (λ d. inr (d.0, chosen_skip xs ys x d.1 p))
       h
-
-module _ {X : Type 0} (Q : X → X → Type 0) where
-  there_in_zip : (xs ys : List X) → AllZip Q xs ys → (x : X) → Contains xs x → (y : X) × Contains ys y × Q x y
-  there_in_zip [] ys h x c = absurd (Contains-none x c)
-  there_in_zip (z ∷ xs) [] h x c = absurd h
-  there_in_zip (z ∷ xs) (y ∷ ys) h x c = ⊎_elim
-      (λ e. (y, (0, omega arith, refl), subst (λ v. Q v y) e h.0))
-      (λ t. let r = there_in_zip xs ys h.1 x t in (r.0, Contains-cons y ys r.0 r.1, r.2))
-      (Contains-cons_cases z xs x c)
-
-  back_in_zip : (xs ys : List X) → AllZip Q xs ys → (y : X) → Contains ys y → (x : X) × Contains xs x × Q x y
-  back_in_zip [] [] h y c = absurd (Contains-none y c)
-  back_in_zip [] (z ∷ ys) h y c = absurd h
-  back_in_zip (z ∷ xs) [] h y c = absurd h
-  back_in_zip (z ∷ xs) (w ∷ ys) h y c = ⊎_elim
-      (λ e. (z, (0, omega arith, refl), subst (Q z) e h.0))
-      (λ t. let r = back_in_zip xs ys h.1 y t in (r.0, Contains-cons z xs r.0 r.1, r.2))
-      (Contains-cons_cases w ys y c)
 
 module _ {V : Type 0} (R : Semiring V) (p : Inequality V) (dropped : List (List V)) where
   -- the new rows of one more kept row

@@ -6,14 +6,14 @@ use Rattle.std.proofs.lemmas.List.Elements.{All-head, All-tail, All-contains}
 use Rattle.trop_theory.specs.Semiring.{Semiring, SemiringLaws, Le}
 use Rattle.trop_theory.specs.Vectors.{scaled, bottom, dot}
 use Rattle.trop_theory.specs.Combinations.{combined, IsCombination}
-use Rattle.trop_theory.specs.Steps.{HoldsOf, IsStep}
+use Rattle.trop_theory.proofs.Truth.{HoldsOf}
+use Rattle.trop_theory.proofs.StepComplete.{IsStep, complete}
 use Rattle.trop_theory.proofs.Order.{le_total, plus_zero, times_zero}
-use Rattle.trop_theory.proofs.Rows.{ap₂}
+use Rattle.std.proofs.Common.{ap₂}
 use Rattle.trop_theory.proofs.Combinations.{length-combined, IsCombination-joined, IsCombination-scaled}
 use Rattle.trop_theory.proofs.Canonical.{IsCombination-least}
 use Rattle.trop_theory.proofs.SameCones.{IsCombination-contained}
 use Rattle.trop_theory.proofs.StepLaws.{HoldsOf-joined, HoldsOf-scaled, HoldsOf-mixed}
-use Rattle.trop_theory.proofs.StepComplete.{complete}
 
 module _ {V : Type 0} {R : Semiring V} (laws : SemiringLaws R) (n : ℕ) where
   dot-bottom : (b : List V) (m : ℕ) → dot R b (bottom R m) ≡ R.zero

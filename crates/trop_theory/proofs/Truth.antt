@@ -4,8 +4,11 @@ use Rattle.std.specs.Prelude.{◌↔◌}
 use Rattle.trop_theory.specs.Semiring.{Semiring, SemiringLaws, Le}
 use Rattle.trop_theory.specs.Vectors.{entry, dot}
 use Rattle.trop_theory.specs.Inequalities.{IsTrueAt}
-use Rattle.trop_theory.specs.Steps.{HoldsOf}
 use Rattle.trop_theory.proofs.Order.{le_trans, le-plus_left, le-plus_right, plus-least, zero_below}
+
+-- the sum of the left is at most that of the right; `truth` says that this is truth
+abbrev pub HoldsOf : {V : Type 0} → Semiring V → List V → List V → List V → Type 0
+HoldsOf R a b x = Le R (dot R a x) (dot R b x)
 
 module _ {V : Type 0} {R : Semiring V} (laws : SemiringLaws R) where
   -- a term is at most the sum

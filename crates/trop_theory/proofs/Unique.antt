@@ -7,10 +7,10 @@ use Rattle.trop_theory.specs.Normal.{IsNormal}
 use Rattle.trop_theory.specs.Extreme.{IsExtreme}
 use Rattle.trop_theory.specs.Canonical.{RowBelow, IsCanonical}
 use Rattle.trop_theory.proofs.Order.{le_antisym}
-use Rattle.trop_theory.proofs.Rows.{ap₂}
+use Rattle.std.proofs.Common.{ap₂}
 use Rattle.trop_theory.proofs.Canonical.{IsExtreme-same}
 use Rattle.trop_theory.proofs.Distinct.{row_below_itself}
-use Rattle.trop_theory.proofs.Narrower.{Contains-cons_cases, Contains-none}
+use Rattle.plain_lemmas.proofs.Lists.{Contains-cons_cases, Contains-none}
 
 module _ {V : Type 0} {R : Semiring V} (laws : SemiringLaws R) where
   row_below_both : (x y : List V) → RowBelow R x y → RowBelow R y x → ⊥

@@ -16,7 +16,8 @@ use Rattle.trop_theory.proofs.Order.{le_refl, zero_below, times_one, times_zero}
 use Rattle.trop_theory.proofs.Rows.{entry-scaled}
 use Rattle.trop_theory.proofs.Combinations.{IsCombination-length}
 use Rattle.trop_theory.proofs.Residual.{met_from_IsCombination, IsCombination_from_met, none_meets}
-use Rattle.trop_theory.proofs.Canonical.{All-remove, IsCanonical-same, IsCanonical-from_alone}
+use Rattle.trop_theory.proofs.Canonical.{IsCanonical-same, IsCanonical-from_alone}
+use Rattle.plain_lemmas.proofs.Lists.{All-remove}
 
 -- the one at coordinate i, the zero elsewhere
 pub record IsUnit {V : Type 0} (R : Semiring V) (n i : ℕ) (x : List V) : Type 0 where

@@ -1,7 +1,7 @@
 use Rattle.std.proofs.Common.{◌≡◌, ◌≢◌, ◌+◌, ◌++◌, [], ◌∷◌, true≢false, sym, ap, ◌∙◌, subst}
 use Rattle.trop_theory.specs.Vectors.{dot}
-use Rattle.trop_theory.specs.Steps.{HoldsOf}
-use Rattle.trop_theory.proofs.Rows.{ap₂}
+use Rattle.trop_theory.proofs.Truth.{HoldsOf}
+use Rattle.std.proofs.Common.{ap₂}
 use Rattle.trop_dd.specs.Parts.{IsSplit}
 use Rattle.trop_dd.proofs.Splits.{split_drop, split_keep, split_keep_alone}
 use Rattle.trop_dd.proofs.splitting.split_row.Goals as goal

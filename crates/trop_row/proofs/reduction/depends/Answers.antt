@@ -5,7 +5,7 @@ use Rattle.trop_theory.specs.Vectors.{entry, row_size}
 use Rattle.trop_theory.specs.Combinations.{IsCombination}
 use Rattle.trop_theory.specs.Residual.{Meets}
 use Rattle.trop_theory.proofs.Residual.{met_from_IsCombination}
-use Rattle.trop_theory.proofs.Canonical.{All-remove}
+use Rattle.plain_lemmas.proofs.Lists.{All-remove}
 use Rattle.trop_theory.proofs.Sizes.{entry_read}
 use Rattle.trop_row.proofs.Steps.{rows_size-at}
 use Rattle.trop_row.proofs.Others.{all_met_in}

@@ -1,6 +1,6 @@
 use Rattle.std.proofs.Common.{arith, ap, ◌∙◌}
 use Rattle.trop_theory.specs.Vectors.{dot, joined, scaled, row_size}
-use Rattle.trop_theory.proofs.Rows.{ap₂}
+use Rattle.std.proofs.Common.{ap₂}
 use Rattle.trop_theory.proofs.Mixed.{mixed_not_bottom}
 use Rattle.trop_row.proofs.StepMoves.{size_left, size_right, size_mixed, normal_of}
 use Rattle.trop_row.proofs.step.mixed_row.Goals as goal

@@ -1,8 +1,8 @@
 use Rattle.std.proofs.Common.{◌<◌, length, sym, subst}
 use Rattle.std.specs.Prelude.{◌↔◌}
 use Rattle.trop_criterion.specs.Hypergraphs.{Has}
-use Rattle.trop_criterion.specs.Tangents.{IsReachedFromAll}
-use Rattle.trop_tangent.proofs.Attaining.{IsFinite}
+use Rattle.trop_criterion.proofs.Reaching.{IsReachedFromAll}
+use Rattle.trop_tangent.proofs.Attained.{IsFinite}
 use Rattle.trop_tangent.proofs.Judging.{types_from_reached, extreme_where_some, some_finite}
 use Rattle.trop_tangent.proofs.criterion.types.Goals as goal
 

@@ -1,6 +1,6 @@
 -- Decisions on elements and numbers, and sets of numbers as tests.
-use Rattle.std.proofs.Common.{◌⊎◌, ◌<◌, ℕ, zero, suc, Bool, true, false, inl, inr, ⊎_elim, refl, arith, subst}
-use Rattle.std.specs.Prelude.{IsTrue}
+use Rattle.std.proofs.Common.{Option, Some, None, sym, ◌∙◌, true≢false, ◌⊎◌, ◌<◌, ℕ, zero, suc, Bool, true, false, inl, inr, ⊎_elim, refl, arith, subst, ◌≡◌}
+use Rattle.std.specs.Prelude.{IsTrue, MatchOption, is_none, ◌↔◌}
 use Rattle.std.proofs.lemmas.Bool.{cases_lt}
 
 -- the answer of a decision
@@ -50,3 +50,26 @@ pub decide_either : {A B : Type 0} → A ⊎ (A → ⊥) → B ⊎ (B → ⊥) �
 decide_either (inl a) d = inl (inl a)
 decide_either (inr f) (inl b) = inl (inr b)
 decide_either (inr f) (inr g) = inr (λ s. ⊎_elim f g s)
+
+-- a fact or its negation
+abbrev pub Decided : Type 0 → Type 0
+Decided P = P ⊎ (P → ⊥)
+
+-- each number below m, or one that fails
+pub all_or_some : (P : ℕ → Type 0) → ((i : ℕ) → Decided (P i)) → (m : ℕ) → ((i : ℕ) → i < m → P i) ⊎ ((i : ℕ) × (i < m) × (P i → ⊥))
+all_or_some P d zero = inl (λ i l. absurd (omega arith))
+all_or_some P d (suc m) = ⊎_elim all some (all_or_some P d m)
+  where
+    all : ((i : ℕ) → i < m → P i) → ((i : ℕ) → i < suc m → P i) ⊎ ((i : ℕ) × (i < suc m) × (P i → ⊥))
+    all h = ⊎_elim
+        (λ p. inl (λ i l. ⊎_elim (λ q. h i q) (λ q. let e : m ≡ i = omega arith in subst P e p) (cases_lt i m)))
+        (λ p. inr (m, omega arith, p))
+        (d m)
+
+    some : (i : ℕ) × (i < m) × (P i → ⊥) → ((i : ℕ) → i < suc m → P i) ⊎ ((i : ℕ) × (i < suc m) × (P i → ⊥))
+    some s = inr (s.0, omega (arith, s.1), s.2)
+
+-- a search that finds none exactly where a fact holds tells it
+pub none_found : {X P : Type 0} {Q : X → Type 0} (found : Option X) (none : Bool) → none ≡ is_none found → MatchOption found P Q → ((x : X) → Q x → P → ⊥) → IsTrue none ↔ P
+none_found None none e h f = (λ t. h, λ p. e)
+none_found (Some x) none e h f = (λ t. absurd (true≢false (sym t ∙ e)), λ p. absurd (f x h p))

@@ -2,7 +2,7 @@
 use Rattle.std.proofs.Common.{◌≡◌, ◌⊎◌, ◌<◌, ◌≤◌, ◌+◌, ℕ, zero, suc, Bool, true, false, cond, inl, inr, ⊎_elim, refl, ap, arith, subst}
 use Rattle.std.specs.Prelude.{IsTrue}
 use Rattle.std.proofs.lemmas.Bool.{cases_lt, cases_eq}
-use Rattle.trop_criterion.proofs.Tests.{test, test_true, true_test, decide_true, decide_either}
+use Rattle.plain_lemmas.proofs.Decisions.{test, test_true, true_test, decide_true, decide_either}
 
 abbrev pub tally : (ℕ → ℕ) → ℕ → ℕ
 tally f zero = 0

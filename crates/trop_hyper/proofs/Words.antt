@@ -9,8 +9,9 @@ use Rattle.std.proofs.lemmas.Nat.{ones_le_self}
 use Rattle.std.proofs.lemmas.Nat.Bits.{bit_at-lt, bit_at-suc, bit_at_lowest, bit_at_above}
 use Rattle.trop_criterion.specs.Hypergraphs.{Has, IsSubset, Hyperedge, Keeps, Reaches, IsClosed}
 use Rattle.std.proofs.lemmas.List.Elements.{All-contains}
-use Rattle.trop_criterion.proofs.Tests.{test, test_true, true_test, decide_not, decide_both, stable, some_below}
-use Rattle.trop_criterion.proofs.Tallies.{tally, tally_below, tally_less, tally_first, tally_one, tally_zero, tally_within}
+use Rattle.plain_lemmas.proofs.Decisions.{test, test_true, true_test, decide_not, decide_both, stable, some_below}
+use Rattle.plain_lemmas.proofs.Tallies.{tally, tally_below, tally_less, tally_first, tally_one, tally_zero, tally_within}
+use Rattle.trop_criterion.proofs.Hypergraphs.{decide_has}
 
 same_tally : (f g : ℕ → ℕ) (n : ℕ) → ((i : ℕ) → f i ≡ g i) → tally f n ≡ tally g n
 same_tally f g zero h = refl
@@ -55,14 +56,6 @@ ones_some k a i p here =
     let l : i < k = ⊎_elim (λ l. l) (λ l. absurd (omega (arith, here, bit_at_above a k i p l))) (cases_lt i k) in
     omega (arith, ones_tally k a p, tally_less (λ j. 0) (bit_at a) k i (λ j m. omega arith) l (omega (arith, here)), tally_zero k)
 
--- membership is decided
-pub decide_has : (set i : ℕ) → Has set i ⊎ (Has set i → ⊥)
-decide_has set i = cases_eq (bit_at set i) 1
-
--- a word as a test
-abbrev pub member : ℕ → ℕ → Bool
-member set i = test (decide_has set i)
-
 pub has_within : (k set i : ℕ) → set < 2 ^ k → Has set i → i < k
 has_within k set i p here = ⊎_elim (λ l. l) (λ l. absurd (omega (arith, here, bit_at_above set k i p l))) (cases_lt i k)
 
@@ -77,25 +70,6 @@ some_more k a b p f =
 -- so a set grows by at least one member where it grows
 pub ones-grow : (k a b : ℕ) → a < 2 ^ k → b < 2 ^ k → IsSubset a b → (IsSubset b a → ⊥) → count_ones a + 1 ≤ count_ones b
 ones-grow k a b p q h f = let s = some_more k b a q f in ones-less k a b s.0 p q h s.1 s.2
-
-pub Keeps-member : (edges : List Hyperedge) (set : ℕ) → IsClosed edges set → All (Keeps (member set)) edges
-Keeps-member edges set h k d l tail i here = test_true (decide_has set i) (h k d l (λ j g. true_test (decide_has set j) (tail j g)) i here)
-
--- what is reached from a member of a closed set is a member
-pub closed_has : (edges : List Hyperedge) (set u v : ℕ) → IsClosed edges set → Has set u → Reaches edges u v → Has set v
-closed_has edges set u v h here r = true_test (decide_has set v) (r (member set) (test_true (decide_has set u) here) (Keeps-member edges set h))
-
--- a node reaches itself
-pub Reaches-itself : (edges : List Hyperedge) (u : ℕ) → Reaches edges u u
-Reaches-itself edges u set here keeps = here
-
--- the head of a hyperedge whose tail is reached is reached
-pub Reaches-head : (edges : List Hyperedge) (edge : Hyperedge) (u : ℕ) → Contains edges edge → ((j : ℕ) → Has edge.tail j → Reaches edges u j) → (i : ℕ) → Has edge.head i → Reaches edges u i
-Reaches-head edges edge u c tail i h set here keeps = All-contains (Keeps set) edges edge keeps c (λ j g. tail j g set here keeps) i h
-
--- what is reached from a reached node is reached
-pub Reaches-over : (edges : List Hyperedge) (u v w : ℕ) → Reaches edges u v → Reaches edges v w → Reaches edges u w
-Reaches-over edges u v w p q set here keeps = q set (p set here keeps) keeps
 
 -- two sets that are not disjoint have a common member
 pub some_common : (k a b both : ℕ) → both < 2 ^ k → ((i : ℕ) → Has both i ↔ (Has a i × Has b i)) → (((i : ℕ) → Has both i → ⊥) → ⊥) → (i : ℕ) × Has a i × Has b i

@@ -4,7 +4,7 @@ use Rattle.std.proofs.Common.{◌≡◌, ◌⊎◌, ◌<◌, ◌≤◌, ◌+◌,
 use Rattle.std.specs.Prelude.{◌↔◌, count_ones}
 use Rattle.std.proofs.lemmas.Bool.{cases_lt}
 use Rattle.trop_criterion.specs.Hypergraphs.{Has, IsSubset}
-use Rattle.trop_criterion.proofs.Words.{ones_some, ones-grow, ones-below, ones-within}
+use Rattle.trop_hyper.proofs.Words.{ones_some, ones-grow, ones-below, ones-within}
 
 -- A round after the first k hyperedges. `kept j` says that the set from which it began has the head of hyperedge j
 -- where it has its tail.

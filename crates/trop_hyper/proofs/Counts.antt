@@ -1,5 +1,5 @@
 -- Counts of looks that rise by one, to 2^62 where they stay.
-use Rattle.std.proofs.Common.{◌≡◌, ◌<◌, ◌≤◌, ◌+◌, ◌*◌, ◌^◌, ℕ, min, arith, add-mul}
+use Rattle.std.proofs.Common.{◌≡◌, ◌<◌, ◌≤◌, ◌+◌, ◌*◌, ◌^◌, ℕ, min, arith, add-mul, length}
 use Rattle.std.proofs.Math.Nat.{mul-le-mul_right}
 
 -- a count that rose by k looks

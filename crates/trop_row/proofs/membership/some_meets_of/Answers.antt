@@ -1,7 +1,7 @@
 use Rattle.std.proofs.Common.{arith, ap, ◌∙◌}
 use Rattle.trop_theory.specs.Vectors.{row_size}
 use Rattle.trop_row.proofs.Steps.{rows_size-at}
-use Rattle.trop_row.proofs.membership.some_meets.Goals as goal
+use Rattle.trop_row.proofs.membership.some_meets_of.Goals as goal
 
 pub meets_at-requires-clause-row_size : goal.meets_at-requires-clause-row_size
 meets_at-requires-clause-row_size g c =

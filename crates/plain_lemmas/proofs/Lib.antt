@@ -1,0 +1,5 @@
+pub mod Decisions
+pub mod Operations
+pub mod Tallies
+pub mod Lists
+pub mod Distinct
