@@ -1,5 +1,5 @@
 -- Each generated cone has a canonical list: a basis, sorted.
-use Rattle.std.proofs.Common.{◌≡◌, ◌⊎◌, ℕ, zero, suc, List, [], ◌∷◌, length, inl, inr, ⊎_elim, sym, ◌∙◌, refl, arith, subst, get_or}
+use Rattle.std.proofs.Common.{◌≡◌, ◌⊎◌, ℕ, zero, suc, List, [], ◌∷◌, length, inl, inr, ⊎_elim, sym, ◌∙◌, refl, arith, subst, get_or, ap₂}
 use Rattle.std.specs.Prelude.{All, AllPairs, Contains}
 use Rattle.std.proofs.lemmas.List.Elements.{All-nil, All-head, All-tail, All-cons, All-contains, Contains-get_or}
 use Rattle.trop_theory.specs.Semiring.{Semiring, SemiringLaws, Le}
@@ -10,11 +10,10 @@ use Rattle.trop_theory.specs.Extreme.{IsExtreme}
 use Rattle.trop_theory.specs.Canonical.{RowBelow, IsCanonical}
 use Rattle.trop_theory.specs.StepList.{AreChosen}
 use Rattle.trop_theory.proofs.Order.{le_trans, le_antisym, le_total}
-use Rattle.trop_theory.proofs.Rows.{ap₂}
 use Rattle.trop_theory.proofs.Canonical.{IsCanonical-same, IsExtreme-same, extreme_from_alone, Contains-extreme}
-use Rattle.trop_theory.proofs.Decided.{Decided}
+use Rattle.plain_lemmas.proofs.Decisions.{Decided}
 use Rattle.trop_theory.proofs.Generation.{Basis, basis}
-use Rattle.trop_theory.proofs.Narrower.{Contains-cons, Contains-cons_cases, Contains-none}
+use Rattle.plain_lemmas.proofs.Lists.{Contains-cons, Contains-cons_cases, Contains-none}
 use Rattle.trop_cones.proofs.Generated.{solutions_generated}
 
 module _ {V : Type 0} {R : Semiring V} (laws : SemiringLaws R) where

@@ -1,5 +1,5 @@
 -- Maps of vectors that keep sums and multiples take the combinations of rows to those of the images of the rows.
-use Rattle.std.proofs.Common.{◌≡◌, ℕ, zero, suc, List, [], ◌∷◌, length, map, set, sym, ap, ◌∙◌, refl}
+use Rattle.std.proofs.Common.{◌≡◌, ℕ, zero, suc, List, [], ◌∷◌, length, map, set, sym, ap, ◌∙◌, refl, ap₂}
 use Rattle.std.specs.Prelude.{All, ◌↔◌}
 use Rattle.std.proofs.lemmas.List.{length-map, length-set, map-set, set-get_or}
 use Rattle.std.proofs.lemmas.List.Elements.{All-head, All-tail}
@@ -7,7 +7,7 @@ use Rattle.trop_theory.specs.Semiring.{Semiring, SemiringLaws}
 use Rattle.trop_theory.specs.Vectors.{entry, scaled, joined, bottom}
 use Rattle.trop_theory.specs.Combinations.{combined, IsCombination}
 use Rattle.trop_theory.proofs.Order.{times_zero, plus_itself}
-use Rattle.trop_theory.proofs.Rows.{ap₂, entry-bottom, entry-joined, entry-scaled}
+use Rattle.trop_theory.proofs.Rows.{entry-bottom, entry-joined, entry-scaled}
 use Rattle.trop_theory.proofs.Combinations.{length-combined}
 use Rattle.trop_cones.specs.Sets.{InAssign, assigned}
 

@@ -12,13 +12,16 @@ use Rattle.trop_theory.specs.Combinations.{IsCombination}
 use Rattle.trop_theory.specs.Extreme.{IsExtreme, IsType}
 use Rattle.trop_theory.specs.Canonical.{IsCanonical}
 use Rattle.trop_theory.specs.Residual.{Meets}
-use Rattle.trop_theory.proofs.Order.{le-plus_left, le-plus_right, swap_middle, le_refl, le_antisym, times_mono, times_mono_left, undo_times, redo_times, factor_finite}
+use Rattle.trop_theory.proofs.Order.{le-plus_left, le-plus_right, le_refl, le_antisym, times_mono, times_mono_left, undo_times, redo_times, factor_finite}
+use Rattle.plain_lemmas.proofs.Operations.{swap_middle}
 use Rattle.trop_theory.proofs.Rows.{same_rows, entry-joined, entry-bottom, entry-scaled, scaled-scaled, scaled_one, below_trans}
 use Rattle.trop_theory.proofs.Combinations.{IsCombination-length, IsCombination-scaled}
-use Rattle.trop_theory.proofs.Residual.{Any-head, Any-cons, met_from_IsCombination, IsCombination_from_met}
+use Rattle.trop_theory.proofs.Residual.{met_from_IsCombination, IsCombination_from_met}
+use Rattle.plain_lemmas.proofs.Lists.{Any-head, Any-cons, Any-decided}
 use Rattle.trop_theory.proofs.Canonical.{IsCombination-least, multiple_from_extreme, Contains-extreme}
 use Rattle.trop_theory.proofs.SameCones.{IsCombination-contained}
-use Rattle.trop_theory.proofs.Decided.{Decided, all_or_some, Any-decided, Below-decided}
+use Rattle.trop_theory.proofs.Decided.{Below-decided}
+use Rattle.plain_lemmas.proofs.Decisions.{Decided, all_or_some}
 use Rattle.trop_theory.proofs.Narrower.{IsExtreme-narrower}
 use Rattle.trop_cones.specs.Minimal.{at_one, IsMinimalAt}
 

@@ -1,5 +1,5 @@
 -- Joins and projections of generated cones, by rows.
-use Rattle.std.proofs.Common.{◌≡◌, ◌<◌, ℕ, List, [], ◌∷◌, ◌++◌, length, map, set, get_or, ⊎_elim, sym, ap, ◌∙◌, refl, arith, subst}
+use Rattle.std.proofs.Common.{◌≡◌, ◌<◌, ℕ, List, [], ◌∷◌, ◌++◌, length, map, set, get_or, ⊎_elim, sym, ap, ◌∙◌, refl, arith, subst, ap₂}
 use Rattle.std.specs.Prelude.{All, Contains, ◌↔◌}
 use Rattle.std.proofs.lemmas.Bool.{cases_eq}
 use Rattle.std.proofs.lemmas.List.{length-map, length-replicate, length-set, get_or-set_same, get_or-set_other}
@@ -7,8 +7,9 @@ use Rattle.std.proofs.lemmas.List.Elements.{All-append, All-map, All-push, Conta
 use Rattle.trop_theory.specs.Semiring.{Semiring, SemiringLaws}
 use Rattle.trop_theory.specs.Vectors.{entry, scaled, joined, bottom}
 use Rattle.trop_theory.specs.Combinations.{IsCombination}
-use Rattle.trop_theory.proofs.Order.{swap_middle, plus_zero, times_zero, times_one}
-use Rattle.trop_theory.proofs.Rows.{ap₂, same_rows, entry-joined, entry-scaled, entry-bottom, length-joined, joined_assoc, joined_comm, joined_bottom, scaled-joined}
+use Rattle.trop_theory.proofs.Order.{plus_zero, times_zero, times_one}
+use Rattle.plain_lemmas.proofs.Operations.{swap_middle}
+use Rattle.trop_theory.proofs.Rows.{same_rows, entry-joined, entry-scaled, entry-bottom, length-joined, joined_assoc, joined_comm, joined_bottom, scaled-joined}
 use Rattle.trop_theory.proofs.Combinations.{IsCombination-joined, IsCombination-scaled}
 use Rattle.trop_theory.proofs.Canonical.{IsCombination-least}
 use Rattle.trop_theory.proofs.SameCones.{IsCombination-contained}

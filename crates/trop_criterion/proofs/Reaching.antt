@@ -20,3 +20,7 @@ TangentReaches R system x u v = (set : ℕ → Bool) → IsTrue (set u) → All 
 pub record IsReachedFromAll {V : Type 0} (R : Semiring V) (system : List (Inequality V)) (x : List V) (t : ℕ) : Type 0 where
   pub finite : entry R x t ≢ R.zero
   pub reached : (u : ℕ) → entry R x u ≢ R.zero → TangentReaches R system x u t
+
+-- the set, as a word, has the head of each tangent hyperedge at x whose tail it has
+abbrev pub IsClosedAt : {V : Type 0} → Semiring V → List (Inequality V) → List V → ℕ → Type 0
+IsClosedAt R system x set = All (λ p. IsTight R p x → ((j : ℕ) → Attains R p.right x j → Has set j) → (i : ℕ) → Attains R p.left x i → Has set i) system

@@ -7,7 +7,7 @@ use Rattle.std.proofs.lemmas.List.Elements.{Contains-push_cases}
 use Rattle.trop_theory.specs.Semiring.{Semiring, SemiringLaws, Le}
 use Rattle.trop_theory.specs.Vectors.{entry, row_size, rows_size}
 use Rattle.trop_theory.proofs.Order.{le_trans, le-plus_left, le-plus_right, times_mono_left, redo_times}
-use Rattle.trop_theory.proofs.Narrower.{Contains-cons_cases, Contains-none}
+use Rattle.plain_lemmas.proofs.Lists.{Contains-cons_cases, Contains-none}
 use Rattle.trop_cones.proofs.Sizes.{row_size-each, size_entry, size_quotient}
 use Rattle.trop_duality.specs.Barriers.{IsHigh, IsBarrierAt, IsBarrier}
 

@@ -15,7 +15,8 @@ use Rattle.trop_theory.specs.StepList.{AreChosen}
 use Rattle.trop_theory.proofs.Rows.{same_rows}
 use Rattle.trop_theory.proofs.Units.{IsUnit}
 use Rattle.trop_theory.proofs.Canonical.{IsExtreme-same}
-use Rattle.trop_theory.proofs.Distinct.{no_longer, ascending_distinct}
+use Rattle.trop_theory.proofs.Distinct.{ascending_distinct}
+use Rattle.plain_lemmas.proofs.Distinct.{no_longer}
 use Rattle.trop_theory.proofs.StepLists.{from_chosen}
 use Rattle.trop_duality.specs.Polars.{InPolar}
 use Rattle.trop_duality.specs.External.{bound_of, AreBounds, IsExternalUpTo}

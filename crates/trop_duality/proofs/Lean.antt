@@ -9,7 +9,7 @@ use Rattle.std.proofs.lemmas.List.Elements.{All-contains, Contains-append_left, 
 use Rattle.trop_theory.specs.Semiring.{Semiring, SemiringLaws}
 use Rattle.trop_theory.specs.Inequalities.{Inequality, IsTrueAt, Solves, IsIn, IsValidOn}
 use Rattle.trop_theory.specs.Canonical.{IsCanonical}
-use Rattle.trop_theory.proofs.Narrower.{Contains-cons, Contains-cons_cases}
+use Rattle.plain_lemmas.proofs.Lists.{Contains-cons, Contains-cons_cases}
 use Rattle.trop_duality.specs.Lean.{FailsFirst, IsLeanFrom, IsLean, Certifies}
 use Rattle.trop_cones.proofs.Cones.{valid_from_rows}
 use Rattle.trop_cones.proofs.Generated.{solutions_by_canonical}

@@ -1,5 +1,5 @@
 -- Each list has one lean list.
-use Rattle.std.proofs.Common.{◌≡◌, ◌⊎◌, ◌<◌, ℕ, List, [], ◌∷◌, ◌++◌, length, get_or, inl, inr, ⊎_elim, sym, ap, ◌∙◌, refl, arith, subst}
+use Rattle.std.proofs.Common.{◌≡◌, ◌⊎◌, ◌<◌, ℕ, List, [], ◌∷◌, ◌++◌, length, get_or, inl, inr, ⊎_elim, sym, ap, ◌∙◌, refl, arith, subst, ap₂}
 use Rattle.std.specs.Prelude.{All}
 use Rattle.std.proofs.lemmas.Bool.{cases_lt}
 use Rattle.std.proofs.lemmas.List.{get_or_default}
@@ -8,9 +8,8 @@ use Rattle.trop_theory.specs.Semiring.{Semiring, SemiringLaws}
 use Rattle.trop_theory.specs.Vectors.{dot}
 use Rattle.trop_theory.specs.Inequalities.{Inequality, IsTrueAt, Solves, IsIn, IsValidOn}
 use Rattle.trop_theory.specs.Canonical.{IsCanonical}
-use Rattle.trop_theory.proofs.Rows.{ap₂}
 use Rattle.trop_theory.proofs.Truth.{truth}
-use Rattle.trop_theory.proofs.Decided.{Decided}
+use Rattle.plain_lemmas.proofs.Decisions.{Decided}
 use Rattle.trop_theory.proofs.Unique.{IsCanonical-unique}
 use Rattle.trop_duality.specs.Lean.{FailsFirst, IsLeanFrom, IsLean}
 use Rattle.trop_duality.proofs.Separation.{first_or_none}

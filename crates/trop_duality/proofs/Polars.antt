@@ -1,6 +1,6 @@
 -- The inequality of a polar row and a vector stand in each other's place, so the polar system of rows has the polar of
 -- their combinations as its solutions.
-use Rattle.std.proofs.Common.{◌≡◌, ◌≢◌, ◌⊎◌, ◌<◌, ℕ, List, length, map, take, set, inl, inr, ⊎_elim, sym, ap, ◌∙◌, arith, subst, refl}
+use Rattle.std.proofs.Common.{◌≡◌, ◌≢◌, ◌⊎◌, ◌<◌, ℕ, List, length, map, take, set, inl, inr, ⊎_elim, sym, ap, ◌∙◌, arith, subst, refl, ap₂}
 use Rattle.std.specs.Prelude.{All, ◌↔◌}
 use Rattle.std.proofs.lemmas.Bool.{cases_lt, cases_eq}
 use Rattle.std.proofs.lemmas.List.{length-map, length-replicate, length-set, get_or-set_same, get_or-set_other, set_past, get_or_past, get_or-map, take-map}
@@ -11,7 +11,7 @@ use Rattle.trop_theory.specs.Combinations.{IsCombination}
 use Rattle.trop_theory.specs.Inequalities.{IsTrueAt, Solves, IsIn}
 use Rattle.trop_theory.specs.Canonical.{IsOverLimit}
 use Rattle.trop_theory.proofs.Order.{zero_below, below_zero, times_zero}
-use Rattle.trop_theory.proofs.Rows.{ap₂, entry-bottom, entry-scaled, length-joined, scaled-scaled, scaled_one}
+use Rattle.trop_theory.proofs.Rows.{entry-bottom, entry-scaled, length-joined, scaled-scaled, scaled_one}
 use Rattle.trop_theory.proofs.Residual.{IsCombination-at}
 use Rattle.trop_theory.proofs.Canonical.{IsExtreme-same}
 use Rattle.trop_cones.specs.Cones.{IsCone}

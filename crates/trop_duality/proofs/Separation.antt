@@ -1,6 +1,6 @@
 -- A vector is a combination of rows, or an inequality separates it from them.
 -- G. Cohen, S. Gaubert, J.-P. Quadrat: Duality and separation theorems in idempotent semimodules (2004).
-use Rattle.std.proofs.Common.{◌≡◌, ◌≢◌, ◌⊎◌, ◌<◌, ◌≤◌, ℕ, zero, suc, List, length, set, get_or, inl, inr, ⊎_elim, sym, ap, ◌∙◌, refl, arith, subst}
+use Rattle.std.proofs.Common.{◌≡◌, ◌≢◌, ◌⊎◌, ◌<◌, ◌≤◌, ℕ, zero, suc, List, length, set, get_or, inl, inr, ⊎_elim, sym, ap, ◌∙◌, refl, arith, subst, ap₂}
 use Rattle.std.specs.Prelude.{All, Any, Contains}
 use Rattle.std.proofs.lemmas.Bool.{cases_lt}
 use Rattle.std.proofs.lemmas.List.{length-replicate, length-set, get_or-set_same, get_or-set_other, set-set, set-get_or, get_or_past, get_or_default}
@@ -9,15 +9,17 @@ use Rattle.trop_theory.specs.Semiring.{Semiring, SemiringLaws, Le}
 use Rattle.trop_theory.specs.Vectors.{entry, bottom}
 use Rattle.trop_theory.specs.Combinations.{IsCombination}
 use Rattle.trop_theory.specs.Inequalities.{Inequality, IsTrueAt}
-use Rattle.trop_theory.specs.Residual.{Meets}
-use Rattle.trop_theory.proofs.Order.{swap_middle, le_refl, le_total, le_antisym, zero_below, below_zero, times_zero, times_mono_left, redo_times}
-use Rattle.trop_theory.proofs.Rows.{ap₂, entry-scaled}
+use Rattle.trop_theory.specs.Residual.{Meets, IsFirstUnmet}
+use Rattle.trop_theory.proofs.Order.{le_refl, le_total, le_antisym, zero_below, below_zero, times_zero, times_mono_left, redo_times, delta_times, delta_moves}
+use Rattle.plain_lemmas.proofs.Operations.{swap_middle}
+use Rattle.trop_theory.proofs.Rows.{entry-scaled}
 use Rattle.trop_theory.proofs.Residual.{meets_from_below, IsCombination_from_met}
-use Rattle.trop_theory.proofs.Decided.{Decided, all_or_some, Any-decided, Meets-decided}
-use Rattle.trop_criterion.proofs.Weakened.{delta_times, delta_moves}
+use Rattle.trop_theory.proofs.Decided.{Meets-decided}
+use Rattle.plain_lemmas.proofs.Decisions.{Decided, all_or_some}
+use Rattle.plain_lemmas.proofs.Lists.{Any-decided}
 use Rattle.trop_duality.specs.Polars.{polar_inequality}
 use Rattle.trop_duality.specs.Barriers.{IsBarrier}
-use Rattle.trop_duality.specs.Separation.{IsFirstUnmet, Separates}
+use Rattle.trop_duality.specs.Separation.{Separates}
 use Rattle.trop_cones.proofs.Cones.{valid_from_rows}
 use Rattle.trop_duality.proofs.Barriers.{barrier, IsBarrier-barrier}
 use Rattle.trop_duality.proofs.Polars.{IsBounded, bounded_from_true, true_from_bounded}

@@ -11,7 +11,7 @@ use Rattle.trop_theory.proofs.Order.{times_zero}
 use Rattle.trop_theory.proofs.Rows.{entry-scaled}
 use Rattle.trop_theory.proofs.StepLists.{from_chosen}
 use Rattle.trop_theory.proofs.Canonical.{IsExtreme-same}
-use Rattle.trop_criterion.specs.SizeBound.{AreWithin}
+use Rattle.trop_criterion.specs.SizeBound.{HasSpread}
 use Rattle.trop_criterion.proofs.SizeBound.{extreme_entries_near}
 use Rattle.trop_duality.specs.Polars.{polar_inequality, polar_system, InPolar}
 use Rattle.trop_duality.specs.External.{bound_of, AreBounds, IsExternalUpTo, IsExternal}
@@ -33,14 +33,14 @@ module _ {V : Type 0} {R : Semiring V} (laws : SemiringLaws R) where
       (All-map (λ p. inequality_size R p ≤ m) (polar_inequality R i) rows (λ k d l. size-polar_inequality i (get_or rows k d) m (All-rows_size laws rows m h k d l)))
 
   -- a bound has the quotients of the entries of its row
-  pub size-bound_of : (i : ℕ) (u : List V) (m : ℕ) → entry R u i ≢ R.zero → AreWithin R m u → inequality_size R (bound_of R i u) ≤ m
+  pub size-bound_of : (i : ℕ) (u : List V) (m : ℕ) → entry R u i ≢ R.zero → HasSpread R m u → inequality_size R (bound_of R i u) ≤ m
   size-bound_of i u m f h = size-polar_inequality i (scaled R (R.inverse (entry R u i)) u) m
       (row_size-each R (scaled R (R.inverse (entry R u i)) u) m (λ j l. subst (λ v. R.size v ≤ m) (sym (entry-scaled laws (R.inverse (entry R u i)) u j)) (⊎_elim
       (λ z. omega (arith, ap R.size (ap (R.times (R.inverse (entry R u i))) z ∙ times_zero laws _), laws.size_zero))
       (λ q. subst (λ v. R.size v ≤ m) (laws.times_comm (entry R u j) (R.inverse (entry R u i))) (h j i q f))
       (laws.discrete (entry R u j) R.zero))))
 
-module _ {V : Type 0} {R : Semiring V} (laws : SemiringLaws R) (n : ℕ) (cone : List V → Type 0) (m : ℕ) (near : (i : ℕ) (u : List V) → i < n → IsExtreme R (InPolar R n cone i) u → AreWithin R m u) where
+module _ {V : Type 0} {R : Semiring V} (laws : SemiringLaws R) (n : ℕ) (cone : List V → Type 0) (m : ℕ) (near : (i : ℕ) (u : List V) → i < n → IsExtreme R (InPolar R n cone i) u → HasSpread R m u) where
   size-bounds : (i : ℕ) (bounds : List (Inequality V)) → i < n → AreBounds R n cone i bounds → All (λ p. inequality_size R p ≤ m) bounds
   size-bounds i bounds l h =
       subst (All (λ p. inequality_size R p ≤ m)) (sym h.read)
@@ -60,7 +60,7 @@ module _ {V : Type 0} {R : Semiring V} (laws : SemiringLaws R) (n : ℕ) (cone :
 
 module _ {V : Type 0} {R : Semiring V} (laws : SemiringLaws R) (n : ℕ) (rows : List (List V)) (w : All (λ g. length g ≡ n) rows) where
   -- two finite entries of an extreme vector of a polar
-  pub polar_entries_near : (m : ℕ) → rows_size R rows ≤ m → (i : ℕ) (u : List V) → IsExtreme R (InPolar R n (IsCombination R n rows) i) u → AreWithin R (4 * m * (n - 1)) u
+  pub polar_entries_near : (m : ℕ) → rows_size R rows ≤ m → (i : ℕ) (u : List V) → IsExtreme R (InPolar R n (IsCombination R n rows) i) u → HasSpread R (4 * m * (n - 1)) u
   polar_entries_near m h i u e = extreme_entries_near laws n m (polar_system R i rows) u (IsIn-polar_system laws n i rows w) (system_size-polar laws i rows m h)
       (IsExtreme-same (InPolar R n (IsCombination R n rows) i) (Solves R n (polar_system R i rows)) (λ v. ((polar_system_is_polar laws n i rows w v).1, (polar_system_is_polar laws n i rows w v).0)) u e)
 

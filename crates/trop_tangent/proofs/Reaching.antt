@@ -8,8 +8,8 @@ use Rattle.std.proofs.lemmas.Bool.{cases_lt}
 use Rattle.trop_theory.specs.Semiring.{Semiring}
 use Rattle.trop_theory.specs.Inequalities.{Inequality}
 use Rattle.trop_criterion.specs.Hypergraphs.{Has, IsSubset, Hyperedge}
-use Rattle.trop_criterion.specs.Tangents.{Attains, IsTight, TangentEdge, IsTangentOf, IsClosedAt}
-use Rattle.trop_criterion.proofs.Reaching.{KeepsTangent, TangentReaches, IsReachedFromAll}
+use Rattle.trop_criterion.specs.Tangents.{Attains, IsTight, TangentEdge, IsTangentOf}
+use Rattle.trop_criterion.proofs.Reaching.{IsClosedAt, KeepsTangent, TangentReaches, IsReachedFromAll}
 use Rattle.plain_lemmas.proofs.Decisions.{test_true, true_test}
 use Rattle.trop_criterion.proofs.Hypergraphs.{member, decide_has}
 use Rattle.trop_hyper.proofs.Rounds.{IsGrown, IsGrown-skip, IsGrown-take, IsRound, IsLast}
