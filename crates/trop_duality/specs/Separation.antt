@@ -6,12 +6,7 @@ use Rattle.trop_theory.specs.Vectors.{entry, bottom}
 use Rattle.trop_theory.specs.Inequalities.{Inequality, IsTrueAt, IsValidOn}
 use Rattle.trop_theory.specs.Combinations.{IsCombination}
 use Rattle.trop_theory.specs.Residual.{Meets}
-
--- t is the first coordinate at which x is finite and that no row meets
-pub record IsFirstUnmet {V : Type 0} (R : Semiring V) (rows : List (List V)) (x : List V) (t : ℕ) : Type 0 where
-  pub finite : entry R x t ≢ R.zero
-  pub unmet : Any (Meets R x t) rows → ⊥
-  pub before : (s : ℕ) → s < t → entry R x s ≢ R.zero → Any (Meets R x s) rows
+use Rattle.trop_theory.specs.Residual.{IsFirstUnmet}
 
 -- x_t is at most the sum of p_j x_j over the j other than t: true at each combination of the rows, and false at x, at the
 -- first unmet t
