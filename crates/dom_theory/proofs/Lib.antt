@@ -1,0 +1,10 @@
+pub mod Given
+pub mod Passed
+pub mod Images
+pub mod Walks
+pub mod Settled
+pub mod Sums
+pub mod Sound
+pub mod Ends
+pub mod Unique
+pub mod Visits

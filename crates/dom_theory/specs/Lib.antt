@@ -1,0 +1,12 @@
+pub mod Refusals
+pub mod Places
+pub mod Relations
+pub mod Answers
+pub mod Laws
+pub mod Outcomes
+pub mod Parts
+pub mod Sums
+pub mod Passes
+pub mod Analysis
+pub mod Inclusion
+pub mod Inductive
