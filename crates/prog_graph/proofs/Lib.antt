@@ -1,0 +1,4 @@
+pub mod Turns
+pub mod TreeParts
+pub mod Targets
+pub mod Built
