@@ -1,4 +1,7 @@
+pub mod Sizes
+pub mod Places
 pub mod Placing
+pub mod Parting
 pub mod Splits
 pub mod Mixes
 pub mod Narrowings
@@ -6,5 +9,3 @@ pub mod UnitRows
 pub mod Pushes
 pub mod Conversions
 pub mod Equals
-pub mod TypedParents
-pub mod TypeMasks

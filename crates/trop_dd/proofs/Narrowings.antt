@@ -1,148 +1,138 @@
 -- From the rows that were found to the canonical list of the smaller cone.
-use Rattle.std.proofs.Common.{◌≡◌, ◌≤◌, ◌-◌, ◌*◌, ◌^◌, ℕ, List, [], ◌∷◌, ◌++◌, length, ⊎_elim, sym, ap, ◌∙◌, arith, subst, get_or}
-use Rattle.std.specs.Prelude.{All, Contains}
-use Rattle.std.proofs.Math.Nat.{mul-le-mul_left}
-use Rattle.std.proofs.lemmas.List.{length-append, get_or_append_left}
-use Rattle.std.proofs.lemmas.List.Elements.{All-contains}
+use Rattle.std.proofs.Common.{◌≡◌, ◌≢◌, ◌⊎◌, ◌<◌, ◌≤◌, ◌+◌, ◌^◌, ℕ, min, List, [], ◌∷◌, ◌++◌, length, take, drop, inl, inr, ⊎_elim, sym, ap, ◌∙◌, arith, subst, get_or}
+use Rattle.std.proofs.lemmas.List.{map-append, take-map, drop-map}
+use Rattle.std.specs.Prelude.{All, AllPairs, Any, Contains, map, insert}
+use Rattle.std.proofs.lemmas.List.Elements.{All-contains, All-contains_itself, All-more, All-weaker}
 use Rattle.trop_theory.specs.Semiring.{Semiring, SemiringLaws}
-use Rattle.trop_theory.specs.Vectors.{AreWide, dot, row_size}
-use Rattle.trop_theory.specs.Normal.{IsNormal, Normalises}
-use Rattle.trop_theory.specs.Inequalities.{Inequality, Solves, IsIn, inequality_size, system_size}
-use Rattle.trop_theory.specs.Extreme.{IsExtreme, IsType}
-use Rattle.trop_theory.specs.Canonical.{row_limit}
-use Rattle.trop_theory.specs.Steps.{mixed}
-use Rattle.trop_theory.proofs.Truth.{HoldsOf, truth}
-use Rattle.trop_theory.proofs.Narrower.{IsNarrowed, narrowed_canonical, narrowed_generates, kept_stays_extreme, Solves-push, Solves-front}
-use Rattle.trop_criterion.proofs.Criterion.{reached_from_extreme, type_is_reached}
-use Rattle.trop_dd.proofs.TypedParents.{Parents, kept_or_parents}
-use Rattle.trop_theory.proofs.Distinct.{ascending_distinct, fresh_and_kept}
-use Rattle.plain_lemmas.proofs.Distinct.{no_longer}
-use Rattle.trop_criterion.proofs.SizeBound.{extreme_row_small}
-use Rattle.trop_dd.specs.declared.splitting.Part.{Part}
+use Rattle.trop_theory.specs.Vectors.{dot}
+use Rattle.trop_theory.specs.Normal.{IsNormal}
+use Rattle.trop_theory.specs.Inequalities.{Inequality, Solves}
+use Rattle.trop_theory.specs.Extreme.{IsExtreme}
+use Rattle.trop_theory.specs.Canonical.{RowBelow, row_limit, IsOverLimit}
+use Rattle.trop_theory.specs.Steps.{HoldsOf}
+use Rattle.trop_theory.proofs.Narrower.{IsNarrowed, narrowed_canonical, narrowed_generates, kept_stays_extreme}
+use Rattle.trop_theory.proofs.Distinct.{no_longer, ascending_distinct, fresh_and_kept}
+use Rattle.trop_pruning.specs.Pairs.{GivesTyped}
+use Rattle.trop_pruning.specs.Judged.{Side, IsSide}
+use Rattle.trop_pruning.proofs.Completeness.{narrowed_from_typed}
+use Rattle.trop_dd.specs.declared.splitting.Kept.{Kept}
+use Rattle.trop_dd.specs.declared.splitting.Dropped.{Dropped}
 use Rattle.trop_dd.specs.Description.{Describes, CountsNew}
-use Rattle.trop_dd.specs.Parts.{IsKept, IsRowBefore, IsSplit}
-use Rattle.trop_dd.specs.Steps.{AreFound, Grows, IsLonger, HasMixed, Leads}
-use Rattle.trop_dd.proofs.Mixes.{last_inside, last_size}
+use Rattle.trop_dd.specs.Carried.{rows_of, AreCarried, IsNext}
+use Rattle.trop_dd.specs.Parts.{IsRowBefore, IsSplit}
+use Rattle.trop_dd.specs.Steps.{AreFound, Grows, HasGiven}
+use Rattle.trop_dd.proofs.Places.{row_read, length-rows}
+use Rattle.trop_dd.proofs.Placing.{only_placed}
 
-module _ {V : Type 0} {R : Semiring V} (laws : SemiringLaws R) (n : ℕ) (system : List (Inequality V)) (p : Inequality V) (rows : List (List V)) (longer : IsLonger R n system p rows) (stay : List (List V)) (kept dropped : List (Part V)) (split : IsSplit R p rows (length rows) stay kept dropped) where
-  from_before : (v : List V) → IsRowBefore rows (length rows) v → Contains rows v
+module _ {V : Type 0} {R : Semiring V} (laws : SemiringLaws R) (n : ℕ) (system : List (Inequality V)) (p : Inequality V) (sides : List (Side V)) (next : IsNext R n system p sides) (rows : List (List V)) (stay : List (Side V)) (kept : List (Kept V)) (dropped : List (Dropped V)) (split : IsSplit R n system p sides (length sides) rows stay kept dropped) where
+  from_before : (v : List V) → IsRowBefore (rows_of sides) (length sides) v → Contains (rows_of sides) v
   from_before v h = (h.0, h.2, h.3)
 
-  stay_in_rows : All (Contains rows) stay
-  stay_in_rows k d l = from_before (get_or stay k d) (split.stay_from k d l).0
+  stay_in_rows : All (Contains (rows_of sides)) rows
+  stay_in_rows k d l = from_before (get_or rows k d) (split.stay_from k d l).0
 
   -- the rows at which the inequality is true are extreme in the smaller cone
-  pub found_at_start : AreFound R (Solves R n system) stay
+  pub found_at_start : AreFound R n (system ++ p ∷ []) rows stay
   found_at_start = record {
     ascending = split.ascending;
-    normal = λ k d l. All-contains (IsNormal R) rows (get_or stay k d) longer.described.canonical.normal (stay_in_rows k d l);
-    extreme = λ k d l. subst (λ s. IsExtreme R (Solves R n s) (get_or stay k d)) (sym longer.whole)
-        (kept_stays_extreme laws n longer.front p (get_or stay k d) (last_inside R n system p rows longer)
-        (All-contains (IsExtreme R (Solves R n longer.front)) rows (get_or stay k d) longer.described.canonical.extreme (stay_in_rows k d l))
-        (split.stay_from k d l).1);
+    normal = λ k d l. All-contains (IsNormal R) (rows_of sides) (get_or rows k d) next.described.canonical.normal (stay_in_rows k d l);
+    extreme = λ k d l. kept_stays_extreme laws n system p (get_or rows k d) next.last
+        (All-contains (IsExtreme R (Solves R n system)) (rows_of sides) (get_or rows k d) next.described.canonical.extreme (stay_in_rows k d l))
+        (split.stay_from k d l).1;
+    carried = split.carried;
   }
 
-  pub within_at_start : length stay ≤ row_limit
-  within_at_start = omega (arith, no_longer stay rows (ascending_distinct R stay split.ascending) stay_in_rows, longer.described.within)
+  pub within_at_start : length rows ≤ row_limit
+  within_at_start = omega (arith, no_longer rows (rows_of sides) (ascending_distinct R rows split.ascending) stay_in_rows, next.described.within)
 
-  module _ (leading : List (Part V)) (all_leading : All (λ part. (d : List V) → Leads R (Solves R n system) p (get_or rows part.place d) → Contains leading part) kept) (new : List (List V)) (before after : ℕ) (grows : Grows R (Solves R n system) stay new before after) (tried : All (λ first. All (HasMixed R (Solves R n system) p rows new first) dropped) leading) where
-    contains_stay : (v : List V) → Contains rows v → HoldsOf R p.left p.right v → Contains new v
-    contains_stay v h t = All-contains (Contains new) stay v grows.stay
-        (subst (Contains stay) h.2 (split.stay_all h.0 v h.1 (subst (HoldsOf R p.left p.right) (sym h.2) t)))
+  module _ (new : List (List V)) (beside : List (Side V)) (before after : ℕ) (found : AreFound R n (system ++ p ∷ []) new beside) (grows : Grows rows new before after) (tried : All (λ first. All (HasGiven R n system p sides new first) dropped) kept) where
+    contains_stay : (v : List V) → Contains (rows_of sides) v → HoldsOf R p.left p.right v → Contains new v
+    contains_stay v h t = All-contains (Contains new) rows v grows.stay
+        (subst (Contains rows) h.2 (split.stay_all h.0 v (omega (arith, h.1, length-rows sides)) (subst (HoldsOf R p.left p.right) (sym h.2) t)))
 
-    -- a type in the greater cone is one in the smaller
-    still_typed : (v : List V) (j : ℕ) → HoldsOf R p.left p.right v → IsType R (Solves R n longer.front) v j → IsType R (Solves R n system) v j
-    still_typed v j h typed = record {
-      member = subst (λ s. Solves R n s v) (sym longer.whole)
-          (Solves-push n longer.front p v typed.member ((truth laws p.left p.right v ((last_inside R n system p rows longer).left ∙ sym typed.member.wide) ((last_inside R n system p rows longer).right ∙ sym typed.member.wide)).0 h));
-      finite = typed.finite;
-      least = λ y cy below agrees. typed.least y (Solves-front n longer.front p y (subst (λ s. Solves R n s y) longer.whole cy)) below agrees;
-    }
+    from_pair : (v w x : List V) (t : ℕ) → Contains (rows_of sides) v → Contains (rows_of sides) w → HoldsOf R p.left p.right v → dot R p.right v ≢ R.zero → (HoldsOf R p.left p.right w → ⊥) → GivesTyped R n system p v w x t → Contains new x
+    from_pair v w x t cv cw holds finite fails g =
+        let lv : cv.0 < length sides = omega (arith, cv.1, length-rows sides) in
+        let lw : cw.0 < length sides = omega (arith, cw.1, length-rows sides) in
+        let first = split.kept_all cv.0 v lv (subst (HoldsOf R p.left p.right) (sym cv.2) holds) (λ z. finite (ap (dot R p.right) (sym cv.2) ∙ z)) in
+        let second = split.dropped_all cw.0 w lw (λ s. fails (subst (HoldsOf R p.left p.right) cw.2 s)) in
+        let blank : Side V = record { row = []; words = record { support = 0; types = 0; cover = 0 }; slots = []; places = [] } in
+        let at_v : v ≡ (get_or sides first.1.place blank).row = sym cv.2 ∙ row_read sides cv.0 blank v lv ∙ ap (λ k. (get_or sides k blank).row) (sym first.4) in
+        let at_w : w ≡ (get_or sides second.1.place blank).row = sym cw.2 ∙ row_read sides cw.0 blank w lw ∙ ap (λ k. (get_or sides k blank).row) (sym second.4) in
+        All-contains (HasGiven R n system p sides new first.1) dropped second.1
+        (All-contains (λ part. All (HasGiven R n system p sides new part) dropped) kept first.1 tried (first.0, first.2, first.3))
+        (second.0, second.2, second.3) blank blank x t
+        (subst (λ y. GivesTyped R n system p y (get_or sides second.1.place blank).row x t) at_v (subst (λ y. GivesTyped R n system p v y x t) at_w g))
 
-    from_parents : (x : List V) → Parents laws n longer.front p rows x → IsExtreme R (Solves R n system) x → Contains new x
-    from_parents x r ex =
-        let cv = r.contains_kept in
-        let cw = r.contains_dropped in
-        let first = split.kept_all cv.0 r.kept cv.1 (subst (HoldsOf R p.left p.right) (sym cv.2) r.holds) (λ z. r.finite (sym (ap (dot R p.right) cv.2) ∙ z)) in
-        let second = split.dropped_all cw.0 r.dropped cw.1 (λ t. r.fails (subst (HoldsOf R p.left p.right) cw.2 t)) in
-        let at_v : get_or rows first.1.place r.kept ≡ r.kept = ap (λ k. get_or rows k r.kept) first.4 ∙ cv.2 in
-        let at_w : get_or rows second.1.place r.dropped ≡ r.dropped = ap (λ k. get_or rows k r.dropped) second.4 ∙ cw.2 in
-        let leads : Leads R (Solves R n system) p (get_or rows first.1.place r.kept) = subst (Leads R (Solves R n system) p) (sym at_v) (r.node, still_typed r.kept r.node r.holds r.typed, r.attains) in
-        let chosen : Contains leading first.1 = All-contains (λ part. (d : List V) → Leads R (Solves R n system) p (get_or rows part.place d) → Contains leading part) kept first.1 all_leading (first.0, first.2, first.3) r.kept leads in
-        All-contains (HasMixed R (Solves R n system) p rows new first.1) dropped second.1
-        (All-contains (λ part. All (HasMixed R (Solves R n system) p rows new part) dropped) leading first.1 tried chosen)
-        (second.0, second.2, second.3)
-        r.kept r.dropped x (subst (λ y. Normalises R y x) (ap (λ y. mixed R p.left p.right y r.dropped) (sym at_v) ∙ ap (mixed R p.left p.right (get_or rows first.1.place r.kept)) (sym at_w)) r.normalises) ex
-
-    -- every extreme row was found
-    found_all : (x : List V) → IsNormal R x → IsExtreme R (Solves R n system) x → Contains new x
-    found_all x nx ex =
-        let r = reached_from_extreme laws n system x longer.inside ex in
-        let typed : IsType R (Solves R n system) x r.0 = (type_is_reached laws n system x longer.inside ex.member r.0).1 r.1 in
-        ⊎_elim
-        (λ k. contains_stay x k.0 k.1)
-        (λ parents. from_parents x parents ex)
-        (kept_or_parents laws n longer.front p rows (last_inside R n system p rows longer) longer.described.canonical longer.described.generates x r.0 nx (subst (λ s. IsType R (Solves R n s) x r.0) longer.whole typed))
-
-    is_narrowed : IsNarrowed laws n longer.front p rows new
-    is_narrowed = record {
-      ascending = grows.found.ascending;
-      normal = grows.found.normal;
-      extreme = λ k d l. subst (λ s. IsExtreme R (Solves R n s) (get_or new k d)) longer.whole (grows.found.extreme k d l);
-      kept = contains_stay;
-      mixes = λ v w x cv cw hv f hw m ex. found_all x m.normal (subst (λ s. IsExtreme R (Solves R n s) x) (sym longer.whole) ex);
-    }
+    is_narrowed : IsNarrowed laws n system p (rows_of sides) new
+    is_narrowed = narrowed_from_typed laws n system p (rows_of sides) next.inside next.last next.described.canonical next.described.generates new found.ascending found.normal found.extreme contains_stay from_pair
 
     -- the rows that were found describe the longer system
-    pub narrowed_describes : length new ≤ row_limit → Describes R n system new
-    narrowed_describes l = subst (λ s. Describes R n s new) (sym longer.whole) (record {
-      canonical = narrowed_canonical laws n longer.front p rows new (last_inside R n system p rows longer) longer.described.canonical longer.described.generates is_narrowed;
-      generates = narrowed_generates laws n longer.front p rows new (last_inside R n system p rows longer) longer.described.canonical longer.described.generates is_narrowed;
+    pub narrowed_describes : length new ≤ row_limit → Describes R n (system ++ p ∷ []) new
+    narrowed_describes l = record {
+      canonical = narrowed_canonical laws n system p (rows_of sides) new next.last next.described.canonical next.described.generates is_narrowed;
+      generates = narrowed_generates laws n system p (rows_of sides) new next.last next.described.canonical next.described.generates is_narrowed;
       within = l;
-    })
+    }
 
     -- and each new one was looked at
-    pub narrowed_counts : CountsNew R rows new before after
+    pub narrowed_counts : CountsNew R (rows_of sides) new before after
     narrowed_counts fresh ascending inside apart =
-        let both = fresh_and_kept R rows new fresh stay ascending inside apart split.ascending grows.stay stay_in_rows in
+        let both = fresh_and_kept R (rows_of sides) new fresh rows ascending inside apart split.ascending grows.stay stay_in_rows in
         omega (arith, both, grows.counted)
 
 pub counts_later : {V : Type 0} (R : Semiring V) (old new : List (List V)) (before between after : ℕ) → before ≤ between → CountsNew R old new between after → CountsNew R old new before after
 counts_later R old new before between after l h fresh ascending inside apart = let few = h fresh ascending inside apart in omega arith
 
--- the rows of a description are small
-module _ {V : Type 0} {R : Semiring V} (laws : SemiringLaws R) (n : ℕ) (system : List (Inequality V)) (rows : List (List V)) (inside : All (IsIn n) system) (described : Describes R n system rows) where
-  pub described_small : All (λ row. row_size R row ≤ 4 * system_size R system * (n - 1)) rows
-  described_small k d l = extreme_row_small laws n (system_size R system) system (get_or rows k d) inside (omega arith) (described.canonical.extreme k d l) (described.canonical.normal k d l)
+module _ {V : Type 0} where
+  pub grows_none : (rows : List (List V)) (before after : ℕ) → before ≤ after → Grows rows rows before after
+  grows_none rows before after l = record { stay = All-contains_itself rows; counted = omega arith }
 
-  pub described_fit : n ≤ 64 → system_size R system ≤ 2 ^ 49 → All (λ row. row_size R row ≤ 2 ^ 57) rows
-  described_fit ln ls k d l =
-      let most : 4 * system_size R system * (n - 1) ≤ 4 * system_size R system * 63 = mul-le-mul_left (4 * system_size R system) (omega arith) in
-      omega (arith, described_small k d l, most)
+  pub grows_more : (a b c : List (List V)) (i j k : ℕ) → Grows a b i j → Grows b c j k → j ≤ k → Grows a c i k
+  grows_more a b c i j k h t l = record {
+    stay = λ m d lt. All-contains (Contains c) b (get_or a m d) t.stay (h.stay m d lt);
+    counted = omega (arith, h.counted, t.counted);
+  }
 
--- a shorter system is no greater
-front_size : {V : Type 0} (R : Semiring V) (front : List (Inequality V)) (p : Inequality V) → system_size R front ≤ system_size R (front ++ p ∷ [])
-front_size R [] p = omega arith
-front_size R (q ∷ front) p = omega (arith, front_size R front p)
+  -- one look, and one more row at most
+  pub grows_one : (old new : List (List V)) (before between after : ℕ) → All (Contains new) old → length new ≤ length old + 1 → min (before + 1) (2 ^ 62) ≤ between → between ≤ after → Grows old new before after
+  grows_one old new before between after s l looked later = record { stay = s; counted = omega arith }
 
-module _ {V : Type 0} {R : Semiring V} (laws : SemiringLaws R) (n : ℕ) (system : List (Inequality V)) (p : Inequality V) (rows : List (List V)) (longer : IsLonger R n system p rows) where
-  pub longer_fit : n ≤ 64 → system_size R system ≤ 2 ^ 49 → All (λ row. row_size R row ≤ 2 ^ 57) rows
-  longer_fit ln ls =
-      described_fit laws n longer.front rows
-      (λ k d l. subst (IsIn n) (ap (λ s. get_or s k d) longer.whole ∙ get_or_append_left longer.front (p ∷ []) d k l) (longer.inside k d (omega (arith, ap length longer.whole, length-append longer.front (p ∷ [])))))
-      longer.described ln (omega (arith, front_size R longer.front p, ap (system_size R) longer.whole))
+module _ {V : Type 0} (R : Semiring V) (n : ℕ) (system : List (Inequality V)) (p : Inequality V) (sides : List (Side V)) where
+  pub given_stays : (old new : List (List V)) (kept : Kept V) (dropped : Dropped V) → All (Contains new) old → HasGiven R n system p sides old kept dropped → HasGiven R n system p sides new kept dropped
+  given_stays old new kept dropped s h d e x t g = All-contains (Contains new) old x s (h d e x t g)
 
-  pub longer_last_size : system_size R system ≤ 2 ^ 49 → inequality_size R p ≤ 2 ^ 49
-  longer_last_size ls = omega (arith, last_size R longer.front p, ap (system_size R) longer.whole)
+  -- one more dropped row was tried
+  pub tried_more : (old new : List (List V)) (kept : Kept V) (dropped : List (Dropped V)) (i : ℕ) (part : Dropped V) → i < length dropped → part ≡ get_or dropped i part → All (Contains new) old → All (HasGiven R n system p sides old kept) (take i dropped) → HasGiven R n system p sides new kept part → All (HasGiven R n system p sides new kept) (take (i + 1) dropped)
+  tried_more old new kept dropped i part l e s h t =
+      All-more (HasGiven R n system p sides new kept) dropped i part l
+      (All-weaker (HasGiven R n system p sides old kept) (HasGiven R n system p sides new kept) (λ q. given_stays old new kept q s) (take i dropped) h)
+      (subst (HasGiven R n system p sides new kept) e t)
 
-  pub longer_wide : AreWide (length p.left) rows
-  longer_wide k d l = (longer.described.canonical.extreme k d l).member.wide ∙ sym (last_inside R n system p rows longer).left
+  -- one more kept row was tried
+  pub tried_kept_more : (old new : List (List V)) (kept : List (Kept V)) (dropped : List (Dropped V)) (i : ℕ) (part : Kept V) → i < length kept → part ≡ get_or kept i part → All (Contains new) old → All (λ first. All (HasGiven R n system p sides old first) dropped) (take i kept) → All (HasGiven R n system p sides new part) dropped → All (λ first. All (HasGiven R n system p sides new first) dropped) (take (i + 1) kept)
+  tried_kept_more old new kept dropped i part l e s h t =
+      All-more (λ first. All (HasGiven R n system p sides new first) dropped) kept i part l
+      (All-weaker (λ first. All (HasGiven R n system p sides old first) dropped) (λ first. All (HasGiven R n system p sides new first) dropped) (λ first. All-weaker (HasGiven R n system p sides old first) (HasGiven R n system p sides new first) (λ q. given_stays old new first q s) dropped) (take i kept) h)
+      (subst (λ first. All (HasGiven R n system p sides new first) dropped) e t)
 
-  -- a kept row solves the longer system
-  pub kept_solves : (part : Part V) → IsKept R p rows part → (row : List V) → row ≡ get_or rows part.place row → Solves R n system row
-  kept_solves part k row read =
-      let s = (longer.described.canonical.extreme part.place row k.within).member in
-      let holds = subst (HoldsOf R p.left p.right) (sym read) (k.holds row) in
-      let at : Solves R n longer.front row = subst (Solves R n longer.front) (sym read) s in
-      subst (λ t. Solves R n t row) (sym longer.whole)
-      (Solves-push n longer.front p row at ((truth laws p.left p.right row ((last_inside R n system p rows longer).left ∙ sym at.wide) ((last_inside R n system p rows longer).right ∙ sym at.wide)).0 holds))
+-- more rows than the limit
+pub over_limit : {V : Type 0} (R : Semiring V) (n : ℕ) (system : List (Inequality V)) (rows : List (List V)) (sides : List (Side V)) → AreFound R n system rows sides → 4096 < length rows → IsOverLimit R (Solves R n system)
+over_limit R n system rows sides h many = record { rows = rows; ascending = h.ascending; normal = h.normal; extreme = h.extreme; many = many }
+
+-- a list with one more element somewhere
+map_insert : {X Y : Type 0} (f : X → Y) (xs : List X) (i : ℕ) (x : X) → map f (insert xs i x) ≡ insert (map f xs) i (f x)
+map_insert f xs i x = map-append f (take i xs) (x ∷ drop i xs) ∙ ap (λ w. w ++ f x ∷ map f (drop i xs)) (sym (take-map f i xs)) ∙ ap (λ w. take i (map f xs) ++ f x ∷ w) (sym (drop-map f i xs))
+
+module _ {V : Type 0} (R : Semiring V) (n : ℕ) (system : List (Inequality V)) (old new : List (List V)) (before beside : List (Side V)) (place : ℕ) (row : List V) (side : Side V) where
+  -- the rows that were found, with one more
+  pub found_more : AreFound R n system old before → new ≡ insert old place row → beside ≡ insert before place side → side.row ≡ row → IsSide R n system side → AllPairs (RowBelow R) (insert old place row) → IsNormal R row → IsExtreme R (Solves R n system) row → AreFound R n system new beside
+  found_more h en eb same is ascending normal extreme = record {
+    ascending = subst (AllPairs (RowBelow R)) (sym en) ascending;
+    normal = λ k d l. ⊎_elim (λ c. All-contains (IsNormal R) old (get_or new k d) h.normal c) (λ e. subst (IsNormal R) (sym e) normal) (only_placed old new place row en k d l);
+    extreme = λ k d l. ⊎_elim (λ c. All-contains (IsExtreme R (Solves R n system)) old (get_or new k d) h.extreme c) (λ e. subst (IsExtreme R (Solves R n system)) (sym e) extreme) (only_placed old new place row en k d l);
+    carried = record {
+      each = λ k d l. ⊎_elim (λ c. All-contains (IsSide R n system) before (get_or beside k d) h.carried.each c) (λ e. subst (IsSide R n system) (sym e) is) (only_placed before beside place side eb k d l);
+      same = ap rows_of eb ∙ map_insert (λ s. s.row) before place side ∙ ap (λ w. insert w place side.row) h.carried.same ∙ ap (insert old place) same ∙ sym en;
+    };
+  }

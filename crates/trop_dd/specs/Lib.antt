@@ -1,5 +1,6 @@
 pub mod Description
-pub mod Steps
+pub mod Carried
 pub mod Parts
+pub mod Steps
 pub mod Sound
 pub mod Units

@@ -6,12 +6,14 @@ ghost use Rattle.trop_dd.specs.Description.{Description, Describes, CountsNew, I
 ghost use Rattle.trop_dd.specs.Units.{IsUnitRow};
 
 use crate::error::DdErr;
+use crate::found::Found;
 use crate::narrowing::narrowed;
-use crate::units::unit_rows;
+use crate::units::{unit_rows, unit_sides};
 use std::alloc::{AllocError, Global};
 use std::marker::Model;
 use trop_hyper::Looks;
-use trop_row::{Gens, Ineq, Row, System};
+use trop_pairs::Carried;
+use trop_row::{Gens, Ineq, System};
 use trop_scalar::Scalar;
 
 type NoMemory = AllocError;
@@ -23,6 +25,7 @@ type NoMemory = AllocError;
 pub struct Dd<S: Scalar> {
     system: System<S>,
     rows: Gens<S>,
+    sides: Vec<Carried<S>>,
 }
 
 impl<S: Scalar> Model for Dd<S> {
@@ -30,12 +33,13 @@ impl<S: Scalar> Model for Dd<S> {
     ghost use Rattle.trop_theory.specs.Inequalities.{IsIn, system_size};
     ghost use Rattle.trop_dd.specs.Description.{Description, Describes};
     ghost use Rattle.trop_dd.specs.Sound.{IsSound};
+    ghost use Rattle.trop_dd.specs.Carried.{AreCarried};
 
     ghost Value = { Description S };
 
     ghost view = { λ a. record { n = a.system.n; system = a.system.inequalities; rows = a.rows.rows } };
 
-    ghost invariant = { λ a. (a.rows.n ≡ a.system.n) × IsSound S.ring a.system.n a.system.inequalities a.rows.rows };
+    ghost invariant = { λ a. (a.rows.n ≡ a.system.n) × IsSound S.ring a.system.n a.system.inequalities a.rows.rows × AreCarried S.ring a.system.n a.system.inequalities a.rows.rows a.sides.items };
 }
 
 impl<S: Scalar> Dd<S> {
@@ -49,9 +53,12 @@ impl<S: Scalar> Dd<S> {
         ensures units { IfOk result (λ dd. All (IsUnitRow S.ring n) dd.rows) }
         ensures count { IfOk result (λ dd. length dd.rows ≡ n) }
     {
+        let rows = unit_rows(alloc, n)?;
+        let sides = unit_sides(alloc, n, rows.as_slice())?;
         Ok(Dd {
             system: System::new(alloc, n),
-            rows: Gens::from_rows(n, unit_rows(alloc, n)?),
+            rows: Gens::from_rows(n, rows),
+            sides,
         })
     }
 
@@ -75,24 +82,13 @@ impl<S: Scalar> Dd<S> {
         ensures kept { looks.old ≤ looks.new }
     {
         let n = self.system.n();
-        let place = self.system.len();
+        let found = narrowed(alloc, &self.system, &ineq, self.sides.as_slice(), looks)?;
+        let Found { rows, sides, room } = found;
+        drop(room);
         self.system.push(ineq)?;
-        match narrowed(
-            alloc,
-            &self.system,
-            self.system.get(place),
-            self.rows.as_slice(),
-            looks,
-        ) {
-            Ok(rows) => {
-                self.rows = Gens::from_rows(n, rows);
-                Ok(())
-            }
-            Err(err) => {
-                drop_last(&mut self.system);
-                Err(err)
-            }
-        }
+        self.rows = Gens::from_rows(n, rows);
+        self.sides = sides;
+        Ok(())
     }
 
     /// The canonical list of the solutions of all inequalities pushed. Where these have size at most M, the rows have
@@ -122,13 +118,4 @@ impl<S: Scalar> Dd<S> {
     {
         &self.system
     }
-}
-
-// Takes the last inequality off and drops it.
-fn drop_last<S: Scalar>(system: &mut System<S>)
-    requires { 0 < length system.old.inequalities }
-    ensures inequalities { system.new.inequalities ≡ take (length system.old.inequalities - 1) system.old.inequalities }
-    ensures width { system.new.n ≡ system.old.n }
-{
-    let _last = system.pop();
 }

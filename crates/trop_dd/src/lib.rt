@@ -7,7 +7,6 @@ mod dd;
 mod error;
 mod found;
 mod laws;
-mod leading;
 mod mixing;
 mod narrowing;
 mod splitting;

@@ -1,43 +1,39 @@
 use Rattle.std.proofs.Common.{sym, subst, arith}
 use Rattle.std.specs.Prelude.{All}
 use Rattle.std.proofs.lemmas.List.{take_all}
-use Rattle.trop_theory.specs.Inequalities.{Solves}
 use Rattle.trop_dd.specs.Parts.{IsKept}
-use Rattle.trop_dd.specs.Steps.{HasMixed}
-use Rattle.trop_dd.proofs.Mixes.{grows_none, grows_more, tried_kept_more}
+use Rattle.trop_dd.specs.Steps.{HasGiven}
+use Rattle.trop_dd.proofs.Narrowings.{grows_none, grows_more, tried_kept_more}
 use Rattle.trop_dd.proofs.mixing.try_all.Goals as goal
 
 pub loop-part-init : goal.loop-part-init
 loop-part-init g c = record {
-  grows = grows_none g.S.Scalar.ring (Solves g.S.Scalar.ring c.args.system.now.n c.args.system.now.inequalities) c.args.found.now.rows.items c.args.looks.now c.args.looks.now c.requires.found (omega arith);
-  mixed = λ k d l. absurd (omega arith);
+  found = c.requires.found;
+  grows = grows_none c.args.found.now.rows.items c.args.looks.now c.args.looks.now (omega arith);
+  given = λ k d l. absurd (omega arith);
   within = c.requires.within;
-  counted = omega arith;
+  looks = omega arith;
 }
 
 pub try_kept-requires : goal.try_kept-requires
-try_kept-requires g c =
-    record {
-      longer = c.requires.longer;
-      size = c.requires.size;
-      sizes = c.requires.sizes;
-      kept = subst (IsKept g.S.Scalar.ring c.args.ineq.now c.args.rows.now) (sym c.part-item.is) (c.requires.kept c.loop-part.part-index c.part-item.result (omega arith));
-      dropped = c.requires.dropped;
-      found = c.loop-part.invariant.grows.found;
-      within = c.loop-part.invariant.within;
-    }
+try_kept-requires g c = record {
+  next = c.requires.next;
+  kept = subst (IsKept g.S.Scalar.ring c.args.ineq.now c.args.sides.now) (sym c.part-item.is) (c.requires.kept c.loop-part.part-index c.part-item.result (omega arith));
+  dropped = c.requires.dropped;
+  found = c.loop-part.invariant.found;
+  within = c.loop-part.invariant.within;
+}
 
 pub loop-part-preserved : goal.loop-part-preserved
 loop-part-preserved g c = record {
-  grows = grows_more g.S.Scalar.ring (Solves g.S.Scalar.ring c.args.system.now.n c.args.system.now.inequalities) c.args.found.now.rows.items c.loop-part.found.rows.items c.try_kept.new.found.rows.items c.args.looks.now c.loop-part.looks c.try_kept.new.looks
-      c.loop-part.invariant.grows c.in_ok-try_kept.ensures.grows c.in_ok-try_kept.ensures.counted;
-  mixed = tried_kept_more g.S.Scalar.ring (Solves g.S.Scalar.ring c.args.system.now.n c.args.system.now.inequalities) c.args.ineq.now c.args.rows.now c.loop-part.found.rows.items c.try_kept.new.found.rows.items c.args.kept.now c.args.dropped.now c.loop-part.part-index c.part-item.result
-      (omega arith) c.part-item.is c.in_ok-try_kept.ensures.grows.stay c.loop-part.invariant.mixed c.in_ok-try_kept.ensures.mixed;
+  found = c.in_ok-try_kept.ensures.found;
+  grows = grows_more c.args.found.now.rows.items c.loop-part.found.rows.items c.try_kept.new.found.rows.items c.args.looks.now c.loop-part.looks c.try_kept.new.looks c.loop-part.invariant.grows c.in_ok-try_kept.ensures.grows c.in_ok-try_kept.ensures.looks;
+  given = tried_kept_more g.S.Scalar.ring c.args.system.now.n c.args.system.now.inequalities c.args.ineq.now c.args.sides.now c.loop-part.found.rows.items c.try_kept.new.found.rows.items c.args.kept.now c.args.dropped.now c.loop-part.part-index c.part-item.result (omega arith) c.part-item.is c.in_ok-try_kept.ensures.grows.stay c.loop-part.invariant.given c.in_ok-try_kept.ensures.given;
   within = c.in_ok-try_kept.ensures.within;
-  counted = omega (arith, c.loop-part.invariant.counted, c.in_ok-try_kept.ensures.counted);
+  looks = omega (arith, c.loop-part.invariant.looks, c.in_ok-try_kept.ensures.looks);
 }
 
-pub returns-clause-mixed : goal.returns-clause-mixed
-returns-clause-mixed g c =
-    subst (All (λ first. All (HasMixed g.S.Scalar.ring (Solves g.S.Scalar.ring c.args.system.now.n c.args.system.now.inequalities) c.args.ineq.now c.args.rows.now c.loop-part.found.rows.items first) c.args.dropped.now))
-    (take_all c.loop-part.part-index c.args.kept.now (omega arith)) c.loop-part.invariant.mixed
+pub returns-clause-given : goal.returns-clause-given
+returns-clause-given g c =
+    subst (All (λ first. All (HasGiven g.S.Scalar.ring c.args.system.now.n c.args.system.now.inequalities c.args.ineq.now c.args.sides.now c.loop-part.found.rows.items first) c.args.dropped.now))
+    (take_all c.loop-part.part-index c.args.kept.now (omega arith)) c.loop-part.invariant.given

@@ -1,43 +1,15 @@
-use Rattle.std.proofs.Common.{sym, subst, arith}
-use Rattle.std.specs.Prelude.{All}
-use Rattle.std.proofs.lemmas.List.{take_all}
-use Rattle.trop_theory.specs.Inequalities.{Solves}
-use Rattle.trop_dd.specs.Parts.{IsDropped}
-use Rattle.trop_dd.specs.Steps.{HasMixed}
-use Rattle.trop_dd.proofs.Mixes.{grows_none, grows_more, tried_more}
+use Rattle.std.proofs.Common.{sym, ap, ◌∙◌, subst, arith}
+use Rattle.std.proofs.lemmas.List.{get_or_default}
+use Rattle.trop_criterion.specs.Hypergraphs.{Has}
+use Rattle.trop_dd.proofs.Mixes.{no_type_given}
+use Rattle.trop_dd.proofs.Narrowings.{grows_none}
 use Rattle.trop_dd.proofs.mixing.try_kept.Goals as goal
 
-pub loop-part-init : goal.loop-part-init
-loop-part-init g c = record {
-  grows = grows_none g.S.Scalar.ring (Solves g.S.Scalar.ring c.args.system.now.n c.args.system.now.inequalities) c.args.found.now.rows.items c.args.looks.now c.args.looks.now c.requires.found (omega arith);
-  mixed = λ k d l. absurd (omega arith);
-  within = c.requires.within;
-  counted = omega arith;
-}
+pub returns-then-is_empty-clause-grows : goal.returns-then-is_empty-clause-grows
+returns-then-is_empty-clause-grows g c = grows_none c.args.found.now.rows.items c.args.looks.now c.args.looks.now (omega arith)
 
-pub try_pair-requires : goal.try_pair-requires
-try_pair-requires g c =
-    record {
-      longer = c.requires.longer;
-      size = c.requires.size;
-      sizes = c.requires.sizes;
-      kept = c.requires.kept;
-      dropped = subst (IsDropped g.S.Scalar.ring c.args.ineq.now c.args.rows.now) (sym c.part-item.is) (c.requires.dropped c.loop-part.part-index c.part-item.result (omega arith));
-      found = c.loop-part.invariant.grows.found;
-      within = c.loop-part.invariant.within;
-    }
-
-pub loop-part-preserved : goal.loop-part-preserved
-loop-part-preserved g c = record {
-  grows = grows_more g.S.Scalar.ring (Solves g.S.Scalar.ring c.args.system.now.n c.args.system.now.inequalities) c.args.found.now.rows.items c.loop-part.found.rows.items c.try_pair.new.found.rows.items c.args.looks.now c.loop-part.looks c.try_pair.new.looks
-      c.loop-part.invariant.grows c.in_ok-try_pair.ensures.grows c.in_ok-try_pair.ensures.counted;
-  mixed = tried_more g.S.Scalar.ring (Solves g.S.Scalar.ring c.args.system.now.n c.args.system.now.inequalities) c.args.ineq.now c.args.rows.now c.loop-part.found.rows.items c.try_pair.new.found.rows.items c.args.kept c.args.dropped.now c.loop-part.part-index c.part-item.result
-      (omega arith) c.part-item.is c.in_ok-try_pair.ensures.grows.stay c.loop-part.invariant.mixed c.in_ok-try_pair.ensures.mixed;
-  within = c.in_ok-try_pair.ensures.within;
-  counted = omega (arith, c.loop-part.invariant.counted, c.in_ok-try_pair.ensures.counted);
-}
-
-pub returns-clause-mixed : goal.returns-clause-mixed
-returns-clause-mixed g c =
-    subst (All (HasMixed g.S.Scalar.ring (Solves g.S.Scalar.ring c.args.system.now.n c.args.system.now.inequalities) c.args.ineq.now c.args.rows.now c.loop-part.found.rows.items c.args.kept))
-    (take_all c.loop-part.part-index c.args.dropped.now (omega arith)) c.loop-part.invariant.mixed
+pub returns-then-is_empty-clause-given : goal.returns-then-is_empty-clause-given
+returns-then-is_empty-clause-given g c =
+    no_type_given g.met.S.Scalar.ring_laws c.args.system.now.n c.args.system.now.inequalities c.args.ineq.now c.args.sides.now c.requires.next c.args.found.now.rows.items c.args.kept.now c.requires.kept c.args.dropped.now c.requires.dropped c.types.result
+    (λ d. c.types.ensures ∙ ap (λ s. s.words.types) (c.index-sides-kept.is ∙ get_or_default c.args.sides.now c.args.kept.now.place c.index-sides-kept.result d c.requires.kept.within))
+    (λ j typed reaches. c.is_empty.ensures.none.0 c.if-is_empty.true j ((c.intersection.ensures.members j).1 (typed, subst (λ t. Has t j) (sym c.tail.ensures) reaches)))

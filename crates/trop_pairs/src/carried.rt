@@ -1,0 +1,142 @@
+// An extreme row with what is carried beside it.
+ghost use Rattle.std.specs.Prelude.{◌≡◌, ◌⊎◌, ◌↔◌, ℕ, IfOk};
+ghost use Rattle.trop_pruning.specs.Kept.{HasSlotAdded, HasEdgeAdded};
+ghost use Rattle.trop_criterion.specs.Hypergraphs.{Has};
+
+use crate::slot::RowSlot;
+use crate::words::RowWords;
+use std::alloc::{AllocError, Global};
+use std::marker::Model;
+use trop_hyper::Mask;
+use trop_row::Row;
+use trop_scalar::Scalar;
+
+/// A row, its words, its slot for each inequality, and the places of those that give a tangent hyperedge.
+#[derive(Drop)]
+pub struct Carried<S: Scalar> {
+    pub row: Row<S>,
+    pub words: RowWords,
+    pub slots: Vec<RowSlot<S>>,
+    pub places: Vec<usize>,
+}
+
+impl<S: Scalar> Model for Carried<S> {
+    ghost use Rattle.trop_pruning.specs.Judged.{Side};
+
+    ghost Value = { Side S };
+
+    ghost view = { λ a. record { row = a.row; words = a.words; slots = a.slots.items; places = a.places.items } };
+}
+
+impl<S: Scalar> Carried<S> {
+    /// The slots.
+    pub fn slots(&self) -> &[RowSlot<S>]
+        ensures { result.now ≡ self.now.slots }
+    {
+        self.slots.as_slice()
+    }
+
+    /// The places.
+    pub fn places(&self) -> &[usize]
+        ensures { result.now ≡ self.now.places }
+    {
+        self.places.as_slice()
+    }
+
+    /// The finite coordinates.
+    pub fn support(&self) -> Mask
+        ensures { result ≡ self.now.words.support }
+    {
+        self.words.support
+    }
+
+    /// The words.
+    pub fn words(&self) -> RowWords
+        ensures { result ≡ self.now.words }
+    {
+        self.words
+    }
+
+    /// The types.
+    pub fn types(&self) -> Mask
+        ensures { result ≡ self.now.words.types }
+    {
+        self.words.types
+    }
+
+    /// The nodes that some tangent hyperedge leaves alone, with maybe others.
+    pub fn cover(&self) -> Mask
+        ensures { result ≡ self.now.words.cover }
+    {
+        self.words.cover
+    }
+
+    /// The row.
+    pub fn row(&self) -> &Row<S>
+        ensures { result.now ≡ self.now.row }
+    {
+        &self.row
+    }
+
+    /// The same row with the same things beside it, and room for one slot more.
+    pub fn copy(&self, alloc: Global) -> Result<Carried<S>, AllocError>
+        ensures { IfOk result (λ side. side ≡ self.now) }
+    {
+        let mut slots = Vec::with_capacity(alloc, self.slots.len() + 1)?;
+        slots.extend_from_slice(self.slots.as_slice())?;
+        let mut places = Vec::with_capacity(alloc, self.places.len() + 1)?;
+        places.extend_from_slice(self.places.as_slice())?;
+        Ok(Carried {
+            row: self.row.copy(alloc)?,
+            words: self.words,
+            slots,
+            places,
+        })
+    }
+
+    /// With one more slot, which gives no hyperedge.
+    pub fn with_slot(self, slot: RowSlot<S>) -> Result<Carried<S>, AllocError>
+        ensures { IfOk result (HasSlotAdded self slot) }
+    {
+        let mut slots = self.slots;
+        slots.push(slot)?;
+        Ok(Carried {
+            row: self.row,
+            words: self.words,
+            slots,
+            places: self.places,
+        })
+    }
+
+    /// With one more slot, which gives a hyperedge that leaves these nodes alone. The types are these from then on.
+    pub fn with_edge(
+        self,
+        slot: RowSlot<S>,
+        types: Mask,
+        alone: Mask,
+    ) -> Result<Carried<S>, AllocError>
+        ensures { IfOk result (HasEdgeAdded self slot types alone) }
+    {
+        let mut slots = self.slots;
+        let mut places = self.places;
+        places.push(slots.len())?;
+        slots.push(slot)?;
+        Ok(Carried {
+            row: self.row,
+            words: RowWords {
+                support: self.words.support,
+                types,
+                cover: self.words.cover.union(alone),
+            },
+            slots,
+            places,
+        })
+    }
+}
+
+/// The coordinates that are finite in one of two rows.
+pub fn nodes_of<S: Scalar>(first: &Carried<S>, second: &Carried<S>) -> Mask
+    ensures { (i : ℕ) → Has result i ↔ (Has first.now.words.support i ⊎ Has second.now.words.support i) }
+{
+    first.support().union(second.support())
+}
