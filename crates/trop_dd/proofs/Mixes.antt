@@ -1,5 +1,5 @@
 -- A kept and a dropped row with what is carried beside them, and the row that they give.
-use Rattle.std.proofs.Common.{◌≡◌, ◌≢◌, ◌⊎◌, ◌<◌, ◌≤◌, ◌+◌, ◌^◌, ℕ, List, [], ◌∷◌, ◌++◌, length, inl, inr, ⊎_elim, sym, ap, ◌∙◌, refl, arith, subst, get_or}
+use Rattle.std.proofs.Common.{◌≡◌, ◌≢◌, ◌⊎◌, ◌<◌, ◌≤◌, ◌+◌, ◌^◌, ℕ, List, [], ◌∷◌, ◌++◌, length, inl, inr, ⊎_elim, sym, ap, ◌∙◌, refl, arith, subst, get_or, ap₂}
 use Rattle.std.specs.Prelude.{All, Contains, ◌↔◌, Option, Some, None}
 use Rattle.std.proofs.lemmas.List.{length-map, get_or_default, get_or_past}
 use Rattle.std.proofs.lemmas.List.Elements.{All-contains}
@@ -9,11 +9,12 @@ use Rattle.trop_theory.specs.Vectors.{entry, scaled, joined, dot, row_size}
 use Rattle.trop_theory.specs.Normal.{IsNormal, Normalises}
 use Rattle.trop_theory.specs.Inequalities.{Inequality, Solves, IsIn, inequality_size, system_size}
 use Rattle.trop_theory.specs.Extreme.{IsExtreme}
-use Rattle.trop_theory.specs.Steps.{HoldsOf, mixed}
+use Rattle.trop_theory.specs.Steps.{mixed}
+use Rattle.trop_theory.proofs.Truth.{HoldsOf}
 use Rattle.trop_theory.proofs.Order.{times_zero}
 use Rattle.trop_theory.proofs.Canonical.{same_from_multiple}
 use Rattle.trop_theory.proofs.Generation.{undo_normal}
-use Rattle.trop_theory.proofs.Rows.{ap₂, entry-scaled, scaled-scaled, scaled-joined, length-joined}
+use Rattle.trop_theory.proofs.Rows.{entry-scaled, scaled-scaled, scaled-joined, length-joined}
 use Rattle.trop_theory.proofs.Sizes.{size-entry}
 use Rattle.trop_theory.proofs.Narrower.{mixed_solves}
 use Rattle.trop_criterion.specs.Hypergraphs.{Has, Hyperedge}

@@ -9,9 +9,10 @@ use Rattle.trop_theory.specs.Normal.{IsNormal}
 use Rattle.trop_theory.specs.Inequalities.{Inequality, Solves}
 use Rattle.trop_theory.specs.Extreme.{IsExtreme}
 use Rattle.trop_theory.specs.Canonical.{RowBelow, row_limit, IsOverLimit}
-use Rattle.trop_theory.specs.Steps.{HoldsOf}
+use Rattle.trop_theory.proofs.Truth.{HoldsOf}
 use Rattle.trop_theory.proofs.Narrower.{IsNarrowed, narrowed_canonical, narrowed_generates, kept_stays_extreme}
-use Rattle.trop_theory.proofs.Distinct.{no_longer, ascending_distinct, fresh_and_kept}
+use Rattle.trop_theory.proofs.Distinct.{ascending_distinct, fresh_and_kept}
+use Rattle.plain_lemmas.proofs.Distinct.{no_longer}
 use Rattle.trop_pruning.specs.Pairs.{GivesTyped}
 use Rattle.trop_pruning.specs.Judged.{Side, IsSide}
 use Rattle.trop_pruning.proofs.Completeness.{narrowed_from_typed}

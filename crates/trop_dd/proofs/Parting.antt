@@ -5,8 +5,7 @@ use Rattle.std.proofs.lemmas.List.{get_or_default}
 use Rattle.trop_theory.specs.Semiring.{Semiring, SemiringLaws}
 use Rattle.trop_theory.specs.Vectors.{dot, row_size}
 use Rattle.trop_theory.specs.Inequalities.{Inequality, IsIn, IsTrueAt}
-use Rattle.trop_theory.specs.Steps.{HoldsOf}
-use Rattle.trop_theory.proofs.Truth.{truth}
+use Rattle.trop_theory.proofs.Truth.{HoldsOf, truth}
 use Rattle.trop_criterion.specs.Hypergraphs.{Has}
 use Rattle.trop_criterion.specs.Tangents.{Attains}
 use Rattle.trop_pruning.specs.Slots.{Slot, IsSlot}

@@ -1,5 +1,5 @@
 -- The sizes of rows, of sums at them and of what two rows give.
-use Rattle.std.proofs.Common.{◌≡◌, ◌≢◌, ◌≤◌, ◌+◌, ◌-◌, ◌*◌, ◌^◌, ℕ, max, List, [], ◌∷◌, ◌++◌, arith, get_or}
+use Rattle.std.proofs.Common.{◌≤◌, ◌+◌, ◌-◌, ◌*◌, ◌^◌, ℕ, max, List, [], ◌∷◌, ◌++◌, arith, get_or}
 use Rattle.std.specs.Prelude.{All}
 use Rattle.std.proofs.Math.Nat.{mul-le-mul_left}
 use Rattle.trop_theory.specs.Semiring.{Semiring, SemiringLaws}
@@ -23,3 +23,7 @@ module _ {V : Type 0} {R : Semiring V} (laws : SemiringLaws R) (n : ℕ) (system
   described_fit ln ls k d l =
       let most : 4 * system_size R system * (n - 1) ≤ 4 * system_size R system * 63 = mul-le-mul_left (4 * system_size R system) (omega arith) in
       omega (arith, described_small k d l, most)
+
+pub row_size-push : {V : Type 0} (R : Semiring V) (x : List V) (a : V) → row_size R (x ++ a ∷ []) ≤ max (row_size R x) (R.size a)
+row_size-push R [] a = omega arith
+row_size-push R (b ∷ x) a = omega (arith, row_size-push R x a)

@@ -9,7 +9,7 @@ use Rattle.trop_theory.specs.Semiring.{Semiring}
 use Rattle.trop_theory.specs.Vectors.{dot}
 use Rattle.trop_theory.specs.Inequalities.{Inequality}
 use Rattle.trop_theory.specs.Canonical.{RowBelow}
-use Rattle.trop_theory.specs.Steps.{HoldsOf}
+use Rattle.trop_theory.proofs.Truth.{HoldsOf}
 use Rattle.trop_pruning.specs.Judged.{Side, IsSide}
 use Rattle.trop_dd.specs.declared.splitting.Kept.{Kept}
 use Rattle.trop_dd.specs.declared.splitting.Dropped.{Dropped}

@@ -4,7 +4,7 @@ use Rattle.trop_theory.specs.Semiring.{Semiring}
 use Rattle.trop_theory.specs.Vectors.{dot}
 use Rattle.trop_theory.specs.Inequalities.{Inequality}
 use Rattle.trop_theory.specs.Canonical.{RowBelow}
-use Rattle.trop_theory.specs.Steps.{HoldsOf}
+use Rattle.trop_theory.proofs.Truth.{HoldsOf}
 use Rattle.trop_criterion.specs.Hypergraphs.{Has}
 use Rattle.trop_criterion.specs.Tangents.{Attains}
 use Rattle.trop_pruning.specs.Slots.{IsSlot}

@@ -2,6 +2,7 @@ ghost use Rattle.std.specs.Prelude.{◌≡◌, ◌-◌, ◌*◌, ◌^◌, ◌<�
 ghost use Rattle.trop_theory.specs.Vectors.{row_size};
 ghost use Rattle.trop_theory.specs.Inequalities.{IsIn, Solves, inequality_size, system_size};
 ghost use Rattle.trop_theory.specs.Canonical.{IsOverLimit};
+ghost use Rattle.trop_criterion.specs.SizeBound.{HaveSpread};
 ghost use Rattle.trop_dd.specs.Description.{Description, Describes, CountsNew, IsRefusedBy};
 ghost use Rattle.trop_dd.specs.Units.{IsUnitRow};
 
@@ -92,12 +93,13 @@ impl<S: Scalar> Dd<S> {
     }
 
     /// The canonical list of the solutions of all inequalities pushed. Where these have size at most M, the rows have
-    /// size at most 4 M (n - 1).
+    /// size at most 4 M (n - 1), and any two finite entries of a row differ by no more.
     pub fn rows(&self) -> &Gens<S>
         ensures rows { result.now.rows ≡ self.now.rows }
         ensures width { result.now.n ≡ self.now.n }
         ensures described { Describes S.ring self.now.n self.now.system self.now.rows }
         ensures small { All (λ row. row_size S.ring row ≤ 4 * system_size S.ring self.now.system * (self.now.n - 1)) self.now.rows }
+        ensures spread { HaveSpread S.ring (4 * system_size S.ring self.now.system * (self.now.n - 1)) self.now.rows }
     {
         &self.rows
     }

@@ -16,7 +16,9 @@ use crate::found::{Found, place_of, put};
 use crate::splitting::{Dropped, Kept};
 use std::alloc::{AllocError, Global};
 use trop_hyper::{Hyper, Looks, Mask};
-use trop_pairs::{Carried, RowSlot, RowWords, carry, closed_by, cover_of, judge, new_slot, rejects};
+use trop_pairs::{
+    Carried, RowSlot, RowWords, carry, closed_by, cover_of, judge, new_slot, rejects,
+};
 use trop_row::{Ineq, Row, System};
 use trop_scalar::Scalar;
 
@@ -97,7 +99,9 @@ fn carried<S: Scalar>(
         tail: slot.tail,
         head: slot.head,
     };
-    carry(alloc, system, ineq, v, first, w, second, row, types, cover, slot)
+    carry(
+        alloc, system, ineq, v, first, w, second, row, types, cover, slot,
+    )
 }
 
 // Finds the row that a pair of these types gives, unless it was found before.
@@ -177,11 +181,23 @@ fn judge_pair<S: Scalar>(
     let (v, w) = (&sides[kept.place], &sides[dropped.place]);
     let (left, right) = (dropped.sum, kept.sum());
     let slot = new_slot(kept.slot, left, dropped.reached);
-    let judged = judge(&mut found.room, system, ineq, v, left, w, right, slot, looks)?;
+    let judged = judge(
+        &mut found.room,
+        system,
+        ineq,
+        v,
+        left,
+        w,
+        right,
+        slot,
+        looks,
+    )?;
     match judged {
         None => Ok(()),
         Some(types) => {
-            admit(alloc, system, ineq, v, left, w, right, slot, types, found, looks)?;
+            admit(
+                alloc, system, ineq, v, left, w, right, slot, types, found, looks,
+            )?;
             if found.rows.len() > ROW_LIMIT {
                 return Err(DdErr::Limit(system.len() + 1));
             }
@@ -250,7 +266,9 @@ fn try_each<S: Scalar>(
     let words = side.words();
     let closed = closed_by(side.cover(), kept.tail());
     for part in dropped {
-        try_pair(alloc, system, ineq, sides, kept, words, closed, part, found, looks)?;
+        try_pair(
+            alloc, system, ineq, sides, kept, words, closed, part, found, looks,
+        )?;
     }
     Ok(())
 }
@@ -278,7 +296,11 @@ fn try_kept<S: Scalar>(
     ensures refused { IfErr result (IsRefusedBy S.ring system.now.n (system.now.inequalities ++ ineq.now ∷ [])) }
     ensures looks { looks.old ≤ looks.new }
 {
-    if sides[kept.place].types().intersection(kept.tail()).is_empty() {
+    if sides[kept.place]
+        .types()
+        .intersection(kept.tail())
+        .is_empty()
+    {
         return Ok(());
     }
     try_each(alloc, system, ineq, sides, kept, dropped, found, looks)

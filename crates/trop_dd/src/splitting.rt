@@ -115,7 +115,9 @@ fn split_side<S: Scalar>(
     let slot = slot_of(ineq, side.row(), left, right);
     let copy = side.copy(alloc)?;
     split.rows.push(side.row().copy(alloc)?)?;
-    split.sides.push(keep(room, system, ineq, copy, slot, looks)?)?;
+    split
+        .sides
+        .push(keep(room, system, ineq, copy, slot, looks)?)?;
     if !is_zero(right) {
         split.kept.push(Kept { place, slot })?;
     }

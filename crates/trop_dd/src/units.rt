@@ -50,7 +50,11 @@ fn unit_side<S: Scalar>(alloc: Global, row: &Row<S>, i: u32) -> Result<Carried<S
 }
 
 // The unit rows in their order, with what is carried beside them.
-pub fn unit_sides<S: Scalar>(alloc: Global, n: u32, rows: &[Row<S>]) -> Result<Vec<Carried<S>>, AllocError>
+pub fn unit_sides<S: Scalar>(
+    alloc: Global,
+    n: u32,
+    rows: &[Row<S>],
+) -> Result<Vec<Carried<S>>, AllocError>
     requires at_most { n ≤ 64 }
     requires count { length rows.now ≡ n }
     requires wide { AreWide n rows.now }

@@ -1,11 +1,10 @@
-use Rattle.std.proofs.Common.{◌≡◌, ◌≤◌, ◌^◌, ◌++◌, [], ◌∷◌, length, sym, ap, ◌∙◌, arith, subst}
+use Rattle.std.proofs.Common.{◌≡◌, ◌≤◌, ◌^◌, ◌++◌, [], ◌∷◌, length, sym, ap, ◌∙◌, arith, subst, ap₂}
 use Rattle.std.specs.Prelude.{All, AllPairs, Contains, insert}
 use Rattle.std.proofs.lemmas.List.Edits.{length-insert}
 use Rattle.std.proofs.lemmas.List.Elements.{All-contains_itself}
 use Rattle.trop_theory.specs.Vectors.{joined, scaled, row_size}
 use Rattle.trop_theory.specs.Steps.{mixed}
 use Rattle.trop_theory.specs.Canonical.{RowBelow}
-use Rattle.trop_theory.proofs.Rows.{ap₂}
 use Rattle.trop_dd.proofs.Placing.{stay_placed, here_placed}
 use Rattle.trop_dd.proofs.Narrowings.{found_more}
 use Rattle.trop_dd.proofs.Mixes.{left_size, right_size, same_lengths, first_size, second_size, normal_form_unique, normalises, is_extreme}

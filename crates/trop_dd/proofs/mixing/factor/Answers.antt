@@ -1,6 +1,5 @@
-use Rattle.std.proofs.Common.{length, sym, ap, ◌∙◌, arith}
+use Rattle.std.proofs.Common.{length, sym, ap, ◌∙◌, arith, ap₂}
 use Rattle.trop_theory.specs.Vectors.{entry}
-use Rattle.trop_theory.proofs.Rows.{ap₂}
 use Rattle.trop_theory.proofs.Sizes.{size-entry}
 use Rattle.trop_dd.proofs.Mixes.{union_nodes, left_size, right_size, same_lengths, some_node, node_within, sum_at, is_factor}
 use Rattle.trop_dd.proofs.mixing.factor.Goals as goal

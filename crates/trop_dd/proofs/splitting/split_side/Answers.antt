@@ -1,8 +1,7 @@
-use Rattle.std.proofs.Common.{◌≡◌, ◌≢◌, ◌+◌, ◌++◌, [], ◌∷◌, true≢false, length, sym, ap, ◌∙◌, refl, subst, arith, ◌≤◌, ◌^◌}
+use Rattle.std.proofs.Common.{◌≡◌, ◌≢◌, ◌+◌, ◌++◌, [], ◌∷◌, true≢false, length, sym, ap, ◌∙◌, refl, subst, arith, ◌≤◌, ◌^◌, ap₂}
 use Rattle.std.specs.Prelude.{◌↔◌, All}
 use Rattle.trop_theory.specs.Vectors.{dot, row_size}
 use Rattle.trop_theory.specs.Inequalities.{IsIn, IsTrueAt}
-use Rattle.trop_theory.proofs.Rows.{ap₂}
 use Rattle.trop_criterion.specs.Hypergraphs.{Has}
 use Rattle.trop_criterion.specs.Tangents.{Attains}
 use Rattle.trop_pruning.specs.Slots.{IsSlot}
