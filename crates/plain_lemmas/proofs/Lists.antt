@@ -5,6 +5,9 @@ use Rattle.std.proofs.lemmas.List.{length-map, get_or_default, length-append, ge
 use Rattle.std.proofs.lemmas.List.Elements.{All-push, All-contains, Contains-append_left, Contains-append_right, Contains-append_cases, Contains-push, Contains-get_or, All-append, All-drop, All-take}
 use Rattle.plain_lemmas.proofs.Decisions.{Decided}
 use Rattle.std.specs.List.{AllZip}
+use Rattle.std.specs.List.{refill}
+use Rattle.std.proofs.lemmas.List.{append-nil, drop_all, take_all}
+use Rattle.std.proofs.Common.{take}
 
 -- one more element in front
 pub Any-cons : {X : Type 0} (P : X → Type 0) (y : X) (xs : List X) → Any P xs → Any P (y ∷ xs)
@@ -128,3 +131,10 @@ remove-remove (x ∷ xs) zero k h = refl
 remove-remove (x ∷ xs) (suc j) zero h = absurd (omega arith)
 remove-remove (x ∷ xs) (suc j) (suc k) h = ap (λ w. x ∷ w) (remove-remove xs j k (omega arith))
 
+
+-- as many elements as stood there take their places
+pub refill-all : {X : Type 0} (old xs : List X) → length xs ≡ length old → refill (length old) old xs ≡ xs
+refill-all old xs e =
+    ap (λ w. take (length old) (xs ++ w)) (drop_all (length xs) old (omega (arith, e)))
+    ∙ ap (take (length old)) (append-nil xs)
+    ∙ take_all (length old) xs (omega (arith, e))

@@ -20,5 +20,5 @@ pub use inequality::Ineq;
 pub use membership::{first_unmet, meets, member, some_meets};
 pub use reduction::reduce;
 pub use row::Row;
-pub use step::step_all;
+pub use step::{mixed_row, step_all};
 pub use system::System;

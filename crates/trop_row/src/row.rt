@@ -12,7 +12,8 @@ use crate::entries::{compare_entries, join_all, normalise_all, put, scale_all};
 use std::alloc::{AllocError, Global};
 use std::cmp::Ordering;
 use std::marker::Model;
-use trop_scalar::{Entries, Scalar};
+use trop_entries::Entries;
+use trop_scalar::Scalar;
 
 type NoMemory = AllocError;
 

@@ -53,8 +53,9 @@ fn dropped_rows<S: Scalar>(
     Ok(out)
 }
 
-// The mixed row of a kept and a dropped row, in normal form.
-fn mixed_row<S: Scalar>(
+/// The mixed row of a kept and a dropped row, in normal form: the left sum of the dropped row times the kept row, plus the
+/// right sum of the kept row times the dropped row. The inequality is true at the kept row and false at the other.
+pub fn mixed_row<S: Scalar>(
     alloc: Global,
     kept: &Row<S>,
     dropped: &Row<S>,

@@ -5,4 +5,3 @@ pub mod MinPlusLaws
 pub mod Truth
 pub mod TruthLaws
 pub mod Words
-pub mod Stored

@@ -1,6 +1,7 @@
+// Truth values.
 ghost use Rattle.std.specs.Prelude.{◌≡◌, ◌↔◌, true, false, IsTrue};
-ghost use Rattle.trop_scalar.specs.Truth.{truth_ring, truth_numbering};
-ghost use Rattle.trop_scalar.specs.TruthLaws.{truth_laws, truth_number_laws, both_alike, true_false, false_true};
+ghost use Rattle.trop_theory.specs.TruthValues.{truth_ring, truth_numbering};
+ghost use Rattle.trop_theory.proofs.TruthValueLaws.{truth_laws, truth_number_laws, both_alike, true_false, false_true};
 
 use crate::Scalar;
 use smallvec::SmallVec;
@@ -62,6 +63,8 @@ impl Scalar for Flag {
     ghost number_laws = { truth_number_laws };
 
     ghost decides = { elim [ true ↦ elim [ true ↦ both_alike true | false ↦ true_false ] | false ↦ elim [ true ↦ false_true | false ↦ both_alike false ] ] };
+
+    ghost default_is_zero = { λ x e. e };
 
     fn zero() -> Flag {
         Flag { set: false }

@@ -1,54 +1,16 @@
 //! The semirings of the library: the trait `Scalar` with every law that generic code stands on, the trait `Numeric`
-//! of those whose finite elements are the whole numbers, and the three instances. `Entries` is where the elements of a row
-//! stand.
+//! of those whose finite elements are the whole numbers, and the three instances. No call takes memory.
 #![tactic(auto)]
 
-mod entries;
 mod flag;
 mod max_int;
 mod min_int;
 mod scalar;
 
-pub use entries::Entries;
 pub use flag::Flag;
 pub use max_int::MaxInt;
 pub use min_int::MinInt;
 pub use scalar::{Numeric, Scalar};
 
 #[cfg(test)]
-mod tests {
-    use super::*;
-    use std::test::Fail;
-
-    // What each instance answers on a few elements: sums, products, inverses and the order.
-    #[test]
-    fn three_semirings(rt: HostRuntime) -> Result<(), Fail> {
-        let (two, five) = (MaxInt::of(2), MaxInt::of(5));
-        assert_eq!(rt; two.plus(five).number(), Some(5));
-        assert_eq!(rt; two.times(five).number(), Some(7));
-        assert_eq!(rt; two.plus(MaxInt::zero()).number(), Some(2));
-        assert_eq!(rt; two.times(MaxInt::zero()).number(), None);
-        assert!(rt; two.le(five) && !five.le(two));
-        let (two, five) = (MinInt::of(2), MinInt::of(5));
-        assert_eq!(rt; two.plus(five).number(), Some(2));
-        assert_eq!(rt; two.times(five).number(), Some(7));
-        assert_eq!(rt; five.plus(MinInt::zero()).number(), Some(5));
-        assert_eq!(rt; MinInt::delta().number(), Some(1));
-        assert!(rt; five.le(two) && !two.le(five));
-        let (yes, no) = (Flag::one(), Flag::zero());
-        assert!(rt; yes.plus(no) == yes && yes.times(no) == no && no.le(yes));
-        assert_eq!(rt; yes.number(), Some(0));
-        Ok(())
-    }
-
-    #[test]
-    fn sums_of_products(rt: HostRuntime) {
-        let coeffs = [MaxInt::of(2), MaxInt::zero(), MaxInt::of(-1)];
-        let entries = [MaxInt::of(3), MaxInt::of(9), MaxInt::of(7)];
-        assert_eq!(rt;
-            MaxInt::sum_of_products(&coeffs, &entries).number(),
-            Some(6)
-        );
-        assert_eq!(rt; MinInt::sum_of_products(&[], &[]).number(), None);
-    }
-}
+mod tests;

@@ -1,7 +1,9 @@
-ghost use Rattle.std.specs.Prelude.{◌≡◌, ◌↔◌, ◌≤◌, ◌^◌, ◌+◌, true, false, None, Some, pos, IsTrue};
-ghost use Rattle.trop_scalar.specs.MaxPlus.{max_numbering, max_ring, magnitude, same_element};
+// Whole numbers with the maximum as sum.
+ghost use Rattle.std.specs.Prelude.{◌≡◌, ◌↔◌, ◌≤◌, ◌^◌, ◌+◌, true, false, None, Some, pos, IsTrue, IfSome, unsigned_abs};
+ghost use Rattle.trop_theory.specs.Sizes.{most_element};
+ghost use Rattle.trop_theory.specs.MaxPlus.{max_numbering, max_ring, magnitude, same_element};
 ghost use Rattle.std.specs.Cmp.{partial_equiv_from_equiv};
-ghost use Rattle.trop_scalar.specs.MaxPlusLaws.{max_number_laws, max_numeric_laws, max_laws, decides_same, same_is_equivalence};
+ghost use Rattle.trop_theory.proofs.MaxPlusLaws.{max_number_laws, max_numeric_laws, max_laws, decides_same, same_is_equivalence};
 
 use crate::{Numeric, Scalar};
 use smallvec::SmallVec;
@@ -19,7 +21,7 @@ impl Model for MaxInt {
 
     ghost Value = { Option ℤ };
 
-    ghost use Rattle.trop_scalar.specs.MaxPlus.{magnitude};
+    ghost use Rattle.trop_theory.specs.MaxPlus.{magnitude};
     ghost use Rattle.trop_scalar.specs.Words.{word_value, word_of, word_of-word_value};
     ghost use Rattle.std.proofs.Common.{ap};
     ghost use Rattle.trop_scalar.specs.declared.max_int.MaxInt.TheInside.{Inside};
@@ -36,10 +38,22 @@ impl Model for MaxInt {
 impl MaxInt {
     /// The element that is this number.
     pub fn of(n: i64) -> MaxInt
-        requires { magnitude (Some n) ≤ 2 ^ 62 }
+        requires { magnitude (Some n) ≤ most_element }
         ensures { result ≡ Some n }
     {
         MaxInt { word: n }
+    }
+
+    // The number, which is at most 2^62 in size; none for the zero.
+    pub(crate) fn finite(self) -> Option<i64>
+        ensures value { result ≡ self }
+        ensures bounded { IfSome result (λ n. unsigned_abs n ≤ most_element) }
+    {
+        if self.word == i64::MIN {
+            None
+        } else {
+            Some(self.word)
+        }
     }
 }
 
@@ -81,6 +95,8 @@ impl Scalar for MaxInt {
     ghost ring_laws = { max_laws };
 
     ghost decides = { decides_same };
+
+    ghost default_is_zero = { λ x e. e };
 
     fn zero() -> MaxInt {
         MaxInt { word: i64::MIN }
@@ -133,11 +149,7 @@ impl Scalar for MaxInt {
     }
 
     fn number(self) -> Option<i64> {
-        if self.word == i64::MIN {
-            None
-        } else {
-            Some(self.word)
-        }
+        self.finite()
     }
 }
 

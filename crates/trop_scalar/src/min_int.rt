@@ -1,48 +1,49 @@
+// Whole numbers with the minimum as sum.
 ghost use Rattle.std.specs.Prelude.{◌≡◌, ◌↔◌, ◌≤◌, ◌^◌, ◌+◌, true, false, None, Some, pos, IsTrue};
+ghost use Rattle.std.specs.Cmp.{partial_equiv_from_equiv};
 ghost use Rattle.trop_scalar.specs.MaxPlus.{max_numbering, magnitude, same_element};
 ghost use Rattle.trop_scalar.specs.MinPlus.{min_ring};
-ghost use Rattle.std.specs.Cmp.{partial_equiv_from_equiv};
-ghost use Rattle.trop_scalar.specs.MaxPlusLaws.{decides_same, same_is_equivalence};
-ghost use Rattle.trop_scalar.specs.MinPlusLaws.{min_number_laws, min_numeric_laws, min_laws};
+ghost use Rattle.trop_theory.specs.Sizes.{most_element};
+ghost use Rattle.trop_theory.proofs.MaxPlusLaws.{decides_same, same_is_equivalence};
+ghost use Rattle.trop_theory.proofs.MinPlusLaws.{min_number_laws, min_numeric_laws, min_laws};
 
-use crate::{Numeric, Scalar};
+use crate::{MaxInt, Numeric, Scalar};
 use smallvec::SmallVec;
 use std::marker::Model;
 
 /// An element of the min-plus semiring: a whole number, or `oo` above all of them, with the minimum as sum and
-/// the ordinary sum as product. It is held as the opposite number in one signed word, whose least value stands for
-/// `oo`, so that the order of words is that of the semiring.
+/// the ordinary sum as product. It is held as its opposite, an element of the max-plus semiring, whose sums, products and
+/// order are the opposites of its own.
 #[derive(Clone, Copy)]
 pub struct MinInt {
-    word: i64,
+    mirrored: MaxInt,
 }
 
 impl Model for MinInt {
-    ghost use Rattle.std.specs.Prelude.{ℤ, Option, ◌≤◌, ◌^◌};
+    ghost use Rattle.std.specs.Prelude.{ℤ, Option};
+    ghost use Rattle.std.proofs.Common.{ap};
+    ghost use Rattle.trop_scalar.specs.MaxPlus.{opposite};
+    ghost use Rattle.trop_theory.proofs.MinPlusLaws.{opposite-opposite};
+    ghost use Rattle.trop_scalar.specs.declared.min_int.MinInt.TheInside.{Inside};
 
     ghost Value = { Option ℤ };
 
-    ghost use Rattle.trop_scalar.specs.MaxPlus.{magnitude};
-    ghost use Rattle.trop_scalar.specs.Words.{opposite_value, opposite_word, opposite_word-opposite_value};
-    ghost use Rattle.std.proofs.Common.{ap};
-    ghost use Rattle.trop_scalar.specs.declared.min_int.MinInt.TheInside.{Inside};
+    ghost view = { λ a. opposite a.mirrored };
 
-    ghost view = { λ a. opposite_value a.word };
+    ghost inverse = { λ v. record { mirrored = opposite v } };
 
-    ghost invariant = { λ a. magnitude (opposite_value a.word) ≤ 2 ^ 62 };
-
-    ghost inverse = { λ v. record { word = opposite_word v } };
-
-    ghost inverse_ok = { λ a h. let wrap : ℤ → Inside = λ w. record { word = w } in ap wrap (opposite_word-opposite_value a.word) };
+    ghost inverse_ok = { λ a h. let wrap : Option ℤ → Inside = λ w. record { mirrored = w } in ap wrap (opposite-opposite a.mirrored) };
 }
 
 impl MinInt {
     /// The element that is this number.
     pub fn of(n: i64) -> MinInt
-        requires { magnitude (Some n) ≤ 2 ^ 62 }
+        requires { magnitude (Some n) ≤ most_element }
         ensures { result ≡ Some n }
     {
-        MinInt { word: -n }
+        MinInt {
+            mirrored: MaxInt::of(-n),
+        }
     }
 }
 
@@ -50,7 +51,9 @@ impl Default for MinInt {
     ghost is_default = { λ x. x ≡ None };
 
     fn default() -> MinInt {
-        MinInt { word: i64::MIN }
+        MinInt {
+            mirrored: MaxInt::zero(),
+        }
     }
 }
 
@@ -60,7 +63,7 @@ impl PartialEq for MinInt {
     ghost laws = { partial_equiv_from_equiv same_is_equivalence };
 
     fn eq(&self, other: &MinInt) -> bool {
-        self.word == other.word
+        self.mirrored == other.mirrored
     }
 }
 
@@ -85,61 +88,62 @@ impl Scalar for MinInt {
 
     ghost decides = { decides_same };
 
+    ghost default_is_zero = { λ x e. e };
+
     fn zero() -> MinInt {
-        MinInt { word: i64::MIN }
+        MinInt {
+            mirrored: MaxInt::zero(),
+        }
     }
 
     fn one() -> MinInt {
-        MinInt { word: 0 }
+        MinInt {
+            mirrored: MaxInt::one(),
+        }
     }
 
     fn delta() -> MinInt {
-        MinInt { word: -1 }
+        MinInt {
+            mirrored: MaxInt::delta(),
+        }
     }
 
     fn plus(self, other: MinInt) -> MinInt {
-        if self.word < other.word { other } else { self }
+        MinInt {
+            mirrored: self.mirrored.plus(other.mirrored),
+        }
     }
 
     fn times(self, other: MinInt) -> MinInt {
-        if self.word == i64::MIN || other.word == i64::MIN {
-            MinInt { word: i64::MIN }
-        } else {
-            MinInt {
-                word: self.word + other.word,
-            }
+        MinInt {
+            mirrored: self.mirrored.times(other.mirrored),
         }
     }
 
     fn inverse(self) -> MinInt {
-        if self.word == i64::MIN {
-            self
-        } else {
-            MinInt { word: -self.word }
+        MinInt {
+            mirrored: self.mirrored.inverse(),
         }
     }
 
     fn le(self, other: MinInt) -> bool {
-        self.word <= other.word
+        self.mirrored.le(other.mirrored)
     }
 
     fn size(self) -> u64 {
-        if self.word == i64::MIN {
-            0
-        } else {
-            self.word.unsigned_abs()
-        }
+        self.mirrored.size()
     }
 
     fn of_number(n: i64) -> MinInt {
-        MinInt { word: -n }
+        MinInt {
+            mirrored: MaxInt::of_number(-n),
+        }
     }
 
     fn number(self) -> Option<i64> {
-        if self.word == i64::MIN {
-            None
-        } else {
-            Some(-self.word)
+        match self.mirrored.finite() {
+            None => None,
+            Some(n) => Some(-n),
         }
     }
 }

@@ -1,14 +1,16 @@
+// The traits of the elements of semirings.
 ghost use Rattle.std.specs.Prelude.{◌≡◌, ◌≢◌, ◌+◌, ◌^◌, ◌≤◌, ◌↔◌, ℕ, true, IsTrue, Bool, unsigned_abs, length};
 ghost use Rattle.trop_theory.specs.Vectors.{dot, row_size};
 ghost use Rattle.trop_theory.specs.Semiring.{Semiring, SemiringLaws, Le};
+ghost use Rattle.trop_theory.specs.Sizes.{most_element};
 ghost use Rattle.trop_theory.specs.Numbers.{Numbering, NumberLaws, NumericLaws};
 
-use crate::Entries;
+use trop_entries::Entries;
 
 /// The elements of an idempotent semiring: `plus` picks one of its arguments, and each element other than the zero
 /// has an inverse for `times`. Contracts see an element as its value, which has no bound; one that a program holds
-/// has size at most 2^62. "Finite" means other than the zero. The default value fills places that hold no element yet;
-/// each instance has its zero there.
+/// has size at most 2^62. "Finite" means other than the zero. The default value, which fills places that hold no element yet, is
+/// the zero. No call takes memory or refuses.
 pub trait Scalar: Copy + Eq + Default {
     /// Where the entries of a row stand, up to 8 of them without memory.
     type Store: Entries<Self>;
@@ -43,7 +45,7 @@ pub trait Scalar: Copy + Eq + Default {
 
     /// The product.
     fn times(self, other: Self) -> Self
-        requires { ring.size self + ring.size other ≤ 2 ^ 62 }
+        requires { ring.size self + ring.size other ≤ most_element }
         ensures { result ≡ ring.times self other };
 
     /// The element whose product with this one is the one.
@@ -58,11 +60,11 @@ pub trait Scalar: Copy + Eq + Default {
     /// Its absolute value as a number; 0 for the zero and for truth values.
     fn size(self) -> u64
         ensures size { result ≡ ring.size self }
-        ensures bounded { result ≤ 2 ^ 62 };
+        ensures bounded { result ≤ most_element };
 
     /// The element that stands for the number.
     fn of_number(n: i64) -> Self
-        requires { unsigned_abs n ≤ 2 ^ 62 }
+        requires { unsigned_abs n ≤ most_element }
         ensures { result ≡ numbering.of n };
 
     /// The number that it stands for; none exactly for the zero.
@@ -72,7 +74,7 @@ pub trait Scalar: Copy + Eq + Default {
     /// The sum of the products of coefficients and entries, the zero of none.
     fn sum_of_products(coeffs: &[Self], entries: &[Self]) -> Self
         requires lengths { length coeffs.now ≡ length entries.now }
-        requires sizes { row_size ring coeffs.now + row_size ring entries.now ≤ 2 ^ 62 }
+        requires sizes { row_size ring coeffs.now + row_size ring entries.now ≤ most_element }
         ensures { result ≡ dot ring coeffs.now entries.now }
     {
         let mut sum = Self::zero();
@@ -87,6 +89,9 @@ pub trait Scalar: Copy + Eq + Default {
 
     /// `==` is equality of values.
     ghost decides: { (a b : Self) → (Self.eq a b ≡ true) ↔ (a ≡ b) };
+
+    /// The default value is the zero.
+    ghost default_is_zero: { (x : Self) → Self.is_default x → x ≡ ring.zero };
 
     /// Just the zero has no number.
     ghost number_laws: { NumberLaws ring numbering };

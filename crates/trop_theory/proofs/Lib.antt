@@ -19,3 +19,6 @@ pub mod Units
 pub mod StepLists
 pub mod Unique
 pub mod Mixed
+pub mod MaxPlusLaws
+pub mod MinPlusLaws
+pub mod TruthValueLaws

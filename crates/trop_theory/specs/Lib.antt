@@ -10,3 +10,7 @@ pub mod Canonical
 pub mod Steps
 pub mod StepList
 pub mod Residual
+pub mod MaxPlus
+pub mod MinPlus
+pub mod TruthValues
+pub mod Sizes

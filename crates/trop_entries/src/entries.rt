@@ -1,3 +1,4 @@
+// The places of entries.
 ghost use Rattle.std.specs.Prelude.{◌≡◌, ◌≤◌, List, length, replicate, IsOk, IfOk, refl};
 ghost use Rattle.std.specs.Borrow.{sem, Lends, Array};
 
@@ -39,11 +40,11 @@ impl<S: Copy + Default> Entries<S> for SmallVec<S, 8> {
     ghost items = { λ v. v.items };
 
     ghost use Rattle.smallvec.specs.SmallVec.{with_items};
-    ghost use Rattle.trop_scalar.specs.Stored.{written_items};
+    ghost use Rattle.plain_lemmas.proofs.Lists.{refill-all};
 
     ghost with_items = { with_items };
 
-    ghost written = { written_items };
+    ghost written = { λ v xs e. refill-all v.items xs e };
 
     fn from_slice(alloc: Global, entries: &[S]) -> Result<SmallVec<S, 8>, AllocError> {
         if entries.len() > 8 {

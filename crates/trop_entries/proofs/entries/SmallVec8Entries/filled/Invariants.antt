@@ -1,5 +1,5 @@
 use Rattle.std.proofs.Common.{◌≡◌, ◌≤◌, replicate}
-use Rattle.trop_scalar.proofs.entries.SmallVec8Entries.filled.Given as goal
+use Rattle.trop_entries.proofs.entries.SmallVec8Entries.filled.Given as goal
 
 -- so many copies as turns, with room for the rest
 abbrev pub invariant-loop-k : goal.invariant-loop-k
