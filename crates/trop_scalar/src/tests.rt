@@ -1,9 +1,5 @@
-//! What each instance answers on a few elements, and sums of products at each length, with the zero at each place.
-ghost use Rattle.std.specs.Prelude.{◌≡◌, ◌≤◌, ◌^◌, ◌+◌, ℕ, length, IfOk};
-ghost use Rattle.trop_theory.specs.Vectors.{row_size};
-
+//! What each instance answers on a few elements, and sums of products.
 use super::*;
-use std::alloc::{AllocError, Global};
 use std::test::Fail;
 
 #[test]
@@ -29,13 +25,13 @@ fn three_semirings(rt: HostRuntime) -> Result<(), Fail> {
     Ok(())
 }
 
-// `n` times the number 3, with the zero at place `at` if that is below `n`.
-fn threes(alloc: Global, n: usize, at: usize) -> Result<Vec<MaxInt>, AllocError>
-    ensures len { IfOk result (λ v. length v.items ≡ n) }
-{
-    let mut out = Vec::new(alloc);
-    for i in 0..n {
-        out.push(if i == at { MaxInt::zero() } else { MaxInt::of(3) })?;
-    }
-    Ok(out)
+#[test]
+fn sums_of_products(rt: HostRuntime) {
+    let coeffs = [MaxInt::of(2), MaxInt::zero(), MaxInt::of(-1)];
+    let entries = [MaxInt::of(3), MaxInt::of(9), MaxInt::of(7)];
+    assert_eq!(rt;
+        MaxInt::sum_of_products(&coeffs, &entries).number(),
+        Some(6)
+    );
+    assert_eq!(rt; MinInt::sum_of_products(&[], &[]).number(), None);
 }
