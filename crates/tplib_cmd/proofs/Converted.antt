@@ -8,8 +8,8 @@ use Rattle.trop_theory.specs.Combinations.{IsCombination}
 use Rattle.trop_theory.specs.Canonical.{IsOverLimit}
 use Rattle.trop_theory.proofs.Canonical.{IsCanonical-same}
 use Rattle.trop_dd.specs.Description.{Describes}
-use Rattle.trop_files.specs.Spelling.{RingKind}
-use Rattle.trop_files.specs.Printed.{printed_gens}
+use Rattle.trop_spelling.specs.declared.ring_kind.RingKind.{RingKind}
+use Rattle.trop_files.specs.PrintedFiles.{printed_gens}
 use Rattle.tplib_cmd.specs.Answers.{IsConverted}
 use Rattle.tplib_cmd.proofs.Independent.{independent}
 

@@ -12,12 +12,13 @@ use Rattle.trop_text.specs.Pieces.{Piece, pieces_of}
 use Rattle.trop_text.specs.declared.fault.Fault.{Fault}
 use Rattle.trop_text.specs.declared.fault.TextErr.{TextErr}
 use Rattle.trop_text.specs.declared.fault.TextErr.TheVariants as texts
-use Rattle.trop_files.specs.Spelling.{RingKind}
+use Rattle.trop_spelling.specs.declared.ring_kind.RingKind.{RingKind}
 use Rattle.trop_files.specs.Generators.{greatest_number}
-use Rattle.trop_files.specs.Inequalities.{IsInequality}
-use Rattle.trop_files.specs.InequalityFiles.{AnyInequalities, SpellsInequalities, inequality_file_at}
+use Rattle.trop_spelling.specs.Inequalities.{IsInequality}
+use Rattle.trop_files.specs.InequalityFiles.{Systems, SpellsInequalities, inequality_file_at}
+use Rattle.trop_spelling.specs.Over.{Over, Embedding}
 use Rattle.trop_files.specs.InequalityLines.{LineReader, GivesLine, GivesNext, file_given}
-use Rattle.trop_files.specs.Outcome.{IsFault, IsRefusal}
+use Rattle.trop_reading.specs.Outcome.{IsFault, IsRefusal}
 use Rattle.trop_words.specs.declared.command.Command.TheVariants.{Ext}
 use Rattle.tplib_cmd.specs.declared.answer.Refusal.{Refusal}
 use Rattle.tplib_cmd.specs.declared.answer.Refusal.TheVariants.{Text, Limit, Range, NoMemory}
@@ -33,8 +34,8 @@ take-whole : {X : Type 0} (n : ℕ) (xs : List X) → n ≡ length xs → take n
 take-whole {X} n xs e = ap (λ m. take m xs) e ∙ ap (take (length xs)) (sym (append-nil xs)) ∙ take-append_seam xs []
 
 module _ {V : Type 0} (R : Semiring V) (n : ℕ) where
-  abbrev Over : List (Inequality V) → Type 0
-  Over system = IsOverLimit R (Solves R n system)
+  abbrev TooMany : List (Inequality V) → Type 0
+  TooMany system = IsOverLimit R (Solves R n system)
 
   same_front : (xs : List (Inequality V)) (x : Inequality V) (j : ℕ) → j ≤ length xs → take j (xs ++ x ∷ []) ≡ take j xs
   same_front xs x j within = take-append-le j xs (x ∷ []) within
@@ -43,24 +44,24 @@ module _ {V : Type 0} (R : Semiring V) (n : ℕ) where
   pub stop_more : (xs : List (Inequality V)) (x : Inequality V) (k : ℕ) → IsRowsStop R n xs k → IsRowsStop R n (xs ++ x ∷ []) k
   stop_more xs x k h = record {
     within = omega (arith, h.within, length-append xs (x ∷ []));
-    over = subst Over (sym (same_front xs x k h.within)) h.over;
-    least = λ j below over. h.least j below (subst Over (same_front xs x j (omega (arith, h.within, below))) over);
+    over = subst TooMany (sym (same_front xs x k h.within)) h.over;
+    least = λ j below over. h.least j below (subst TooMany (same_front xs x j (omega (arith, h.within, below))) over);
   }
 
-  within_at : (xs : List (Inequality V)) (x : Inequality V) → IsWithin R n xs → (Over (xs ++ x ∷ []) → ⊥) → (j : ℕ) → j ≤ length (xs ++ x ∷ []) → (j < length xs + 1) ⊎ (length xs + 1 ≤ j) → Over (take j (xs ++ x ∷ [])) → ⊥
-  within_at xs x h last j le (inl lt) over = h j (omega arith) (subst Over (same_front xs x j (omega arith)) over)
-  within_at xs x h last j le (inr past) over = last (subst Over (take-whole j (xs ++ x ∷ []) (omega (arith, length-append xs (x ∷ [])))) over)
+  within_at : (xs : List (Inequality V)) (x : Inequality V) → IsWithin R n xs → (TooMany (xs ++ x ∷ []) → ⊥) → (j : ℕ) → j ≤ length (xs ++ x ∷ []) → (j < length xs + 1) ⊎ (length xs + 1 ≤ j) → TooMany (take j (xs ++ x ∷ [])) → ⊥
+  within_at xs x h last j le (inl lt) over = h j (omega arith) (subst TooMany (same_front xs x j (omega arith)) over)
+  within_at xs x h last j le (inr past) over = last (subst TooMany (take-whole j (xs ++ x ∷ []) (omega (arith, length-append xs (x ∷ [])))) over)
 
   -- every front stays within the limit with one more inequality
-  pub within_next : (xs : List (Inequality V)) (x : Inequality V) → IsWithin R n xs → (Over (xs ++ x ∷ []) → ⊥) → IsWithin R n (xs ++ x ∷ [])
+  pub within_next : (xs : List (Inequality V)) (x : Inequality V) → IsWithin R n xs → (TooMany (xs ++ x ∷ []) → ⊥) → IsWithin R n (xs ++ x ∷ [])
   within_next xs x h last j le over = within_at xs x h last j le (cases_lt j (length xs + 1)) over
 
   -- the first stop is at the inequality that was refused
-  pub stop_here : (xs : List (Inequality V)) (x : Inequality V) (k : ℕ) → IsWithin R n xs → k ≡ length (xs ++ x ∷ []) → Over (xs ++ x ∷ []) → IsRowsStop R n (xs ++ x ∷ []) k
+  pub stop_here : (xs : List (Inequality V)) (x : Inequality V) (k : ℕ) → IsWithin R n xs → k ≡ length (xs ++ x ∷ []) → TooMany (xs ++ x ∷ []) → IsRowsStop R n (xs ++ x ∷ []) k
   stop_here xs x k h e over = record {
     within = omega (arith, e);
-    over = subst Over (sym (take-whole k (xs ++ x ∷ []) e)) over;
-    least = λ j below over. h j (omega (arith, e, below, length-append xs (x ∷ []))) (subst Over (same_front xs x j (omega (arith, e, below, length-append xs (x ∷ [])))) over);
+    over = subst TooMany (sym (take-whole k (xs ++ x ∷ []) e)) over;
+    least = λ j below over. h j (omega (arith, e, below, length-append xs (x ∷ []))) (subst TooMany (same_front xs x j (omega (arith, e, below, length-append xs (x ∷ [])))) over);
   }
 
 -- ---- one line
@@ -83,10 +84,10 @@ module _ {V : Type 0} {kind : RingKind} {R : Semiring V} {N : Numbering V} {old 
   bytes_stay = ap (λ r. r.bytes) h.given
 
 -- where no line is left, the bytes spell what was given
-pub found_at : {V : Type 0} (any : List (Inequality V) → AnyInequalities) (old : LineReader V) (bytes : List ℕ) (names : List (List ℕ)) (o : Option (Inequality V)) → old.bytes ≡ bytes → old.names ≡ names → o ≡ None
-    → IfNone o (SpellsInequalities (pieces_of old.bytes) (file_given any old)) → SpellsLines any bytes names old.given
-found_at any old bytes names None b n e h = subst (λ m. SpellsLines any bytes m old.given) n (subst (λ z. SpellsLines any z old.names old.given) b h)
-found_at any old bytes names (Some x) b n e h = absurd cc
+pub found_at : {V : Type 0} (over : Embedding V) (old : LineReader V) (bytes : List ℕ) (names : List (List ℕ)) (o : Option (Inequality V)) → old.bytes ≡ bytes → old.names ≡ names → o ≡ None
+    → IfNone o (SpellsInequalities (pieces_of old.bytes) (file_given over old)) → SpellsLines (over Systems) bytes names old.given
+found_at over old bytes names None b n e h = subst (λ m. SpellsLines (over Systems) bytes m old.given) n (subst (λ z. SpellsLines (over Systems) z old.names old.given) b h)
+found_at over old bytes names (Some x) b n e h = absurd cc
 
 -- a fault of a line is that of the bytes
 pub fault_at : (before bytes : List ℕ) (told : TextErr) (f : Fault) → before ≡ bytes → told ≡ texts.Fault f → IsRefusal SpellsInequalities inequality_file_at before told → IsFault SpellsInequalities inequality_file_at bytes f
@@ -108,7 +109,7 @@ within_line R n m system new x within grown width last = subst (IsWithin R n) (s
 
 -- ---- the answer
 
-module _ {V : Type 0} (kind : RingKind) (R : Semiring V) (N : Numbering V) (any : List (Inequality V) → AnyInequalities) (before bytes : List ℕ) (names : List (List ℕ)) (same : before ≡ bytes) where
+module _ {V : Type 0} (kind : RingKind) (R : Semiring V) (N : Numbering V) (any : List (Inequality V) → Over Systems) (before bytes : List ℕ) (names : List (List ℕ)) (same : before ≡ bytes) where
   pub answered : ((system : List (Inequality V)) (text : List ℕ) → IsConverted kind R N names system text → IsConvertedFile names (any system) text) → (r : Result Reply Refusal)
       → IfOk r (λ reply. IsConvertedText kind R N any before names reply.text.items) → IfOk r (λ reply. reply.yes ≡ true) → IfOk r (λ reply. IsAnswered Ext bytes (status_of reply.yes) reply.text.items)
   answered to (Ok reply) h ok =

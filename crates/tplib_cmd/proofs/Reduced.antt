@@ -7,8 +7,8 @@ use Rattle.trop_theory.specs.Semiring.{Semiring}
 use Rattle.trop_theory.specs.Numbers.{Numbering}
 use Rattle.trop_theory.specs.Combinations.{IsCombination, AreIndependent}
 use Rattle.trop_theory.specs.Canonical.{IsCanonical}
-use Rattle.trop_files.specs.Spelling.{RingKind}
-use Rattle.trop_files.specs.Printed.{printed_gens}
+use Rattle.trop_spelling.specs.declared.ring_kind.RingKind.{RingKind}
+use Rattle.trop_files.specs.PrintedFiles.{printed_gens}
 use Rattle.tplib_cmd.specs.Answers.{IsReduced}
 
 -- the facts of a reduced list in n coordinates

@@ -2,6 +2,7 @@ ghost use Rattle.std.specs.Prelude.{◌≡◌, ◌+◌, ◌≤◌, ◌^◌, ℕ,
 ghost use Rattle.trop_theory.specs.Inequalities.{Solves};
 ghost use Rattle.trop_theory.specs.Canonical.{IsOverLimit};
 ghost use Rattle.trop_dd.specs.Description.{Describes};
+ghost use Rattle.trop_files.specs.InequalityFiles.{Systems};
 ghost use Rattle.trop_words.specs.declared.command.Command.TheVariants.{Ext};
 ghost use Rattle.tplib_cmd.specs.Answers.{IsRowsStop};
 ghost use Rattle.tplib_cmd.specs.ByLines.{SpellsLines, IsConvertedText, IsUnconvertedText};
@@ -34,9 +35,9 @@ pub(crate) fn convert_file(alloc: Global, bytes: &[u8]) -> Result<Reply, Refusal
 // The file of the solutions of the inequalities, line by line.
 fn converted<S: Spelling>(alloc: Global, lines: &mut IneqLines<'_, S>) -> Result<Reply, Refusal>
     requires { lines.old.given ≡ [] }
-    ensures ok { IfOk result (λ reply. IsConvertedText S.kind S.ring S.numbering S.inequalities lines.old.bytes lines.old.names reply.text.items) }
+    ensures ok { IfOk result (λ reply. IsConvertedText S.KIND S.ring S.numbering (S.three.over Systems) lines.old.bytes lines.old.names reply.text.items) }
     ensures yes { IfOk result (λ reply. reply.yes ≡ true) }
-    ensures refused { IfErr result (IsUnconvertedText S.ring S.inequalities lines.old.bytes lines.old.names) }
+    ensures refused { IfErr result (IsUnconvertedText S.ring (S.three.over Systems) lines.old.bytes lines.old.names) }
 {
     let n = lines.names().len() + 1;
     let Ok(mut dd) = Dd::new(alloc, n) else {
@@ -61,9 +62,9 @@ fn push_lines<S: Spelling>(
     requires empty { dd.old.system ≡ [] }
     requires described { Describes S.ring dd.old.n [] dd.old.rows }
     requires width { dd.old.n ≡ length lines.old.names + 1 }
-    ensures ok { OnOk result (SpellsLines S.inequalities lines.old.bytes lines.old.names dd.new.system) }
+    ensures ok { OnOk result (SpellsLines (S.three.over Systems) lines.old.bytes lines.old.names dd.new.system) }
     ensures within { OnOk result ((j : ℕ) → j ≤ length dd.new.system → IsOverLimit S.ring (Solves S.ring dd.old.n (take j dd.new.system)) → ⊥) }
-    ensures refused { IfErr result (IsUnconvertedText S.ring S.inequalities lines.old.bytes lines.old.names) }
+    ensures refused { IfErr result (IsUnconvertedText S.ring (S.three.over Systems) lines.old.bytes lines.old.names) }
     ensures width { OnOk result (dd.new.n ≡ dd.old.n) }
     ensures names { OnOk result (lines.new.names ≡ lines.old.names) }
 {
@@ -87,7 +88,7 @@ fn push_lines<S: Spelling>(
 // before it.
 fn stopped<S: Spelling>(alloc: Global, lines: &mut IneqLines<'_, S>, count: u32) -> Refusal
     requires { IsRowsStop S.ring (length lines.old.names + 1) lines.old.given count }
-    ensures { IsUnconvertedText S.ring S.inequalities lines.old.bytes lines.old.names result }
+    ensures { IsUnconvertedText S.ring (S.three.over Systems) lines.old.bytes lines.old.names result }
 {
     'rest: loop {
         match lines.next(alloc) {

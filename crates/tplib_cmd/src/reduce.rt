@@ -1,7 +1,7 @@
 ghost use Rattle.std.specs.Prelude.{◌≡◌, ◌+◌, ◌≤◌, ◌^◌, length, IfOk, IfErr};
 ghost use Rattle.trop_theory.specs.Vectors.{rows_size};
 ghost use Rattle.trop_words.specs.declared.command.Command.TheVariants.{Reduce};
-ghost use Rattle.trop_files.specs.GeneratorFiles.{generator_file_of, IsWideGens};
+ghost use Rattle.trop_files.specs.Views.{generator_file_of, IsWideGens};
 ghost use Rattle.tplib_cmd.specs.Answers.{IsReduced, IsReducedFile};
 ghost use Rattle.trop_files.specs.Sizes.{AreSmall};
 ghost use Rattle.tplib_cmd.specs.Ends.{IsAnswered};
@@ -45,7 +45,7 @@ fn reduced_file(alloc: Global, file: &AnyGens) -> Result<Vec<u8>, AllocError>
 fn reduced<S: Spelling>(alloc: Global, file: &GenFile<S>) -> Result<Vec<u8>, AllocError>
     requires width { file.now.gens.n ≡ length file.now.names + 1 }
     requires sizes { rows_size S.ring file.now.gens.rows ≤ 2 ^ 59 }
-    ensures { IfOk result (λ text. IsReduced S.kind S.ring S.numbering file.now.names file.now.gens.rows text.items) }
+    ensures { IfOk result (λ text. IsReduced S.KIND S.ring S.numbering file.now.names file.now.gens.rows text.items) }
 {
     let answer = reduce(alloc, &file.gens)?;
     print_gens(alloc, &file.names, &answer)

@@ -2,7 +2,7 @@ ghost use Rattle.std.specs.Prelude.{◌≡◌, ◌+◌, ◌≤◌, ◌^◌, leng
 ghost use Rattle.trop_theory.specs.Vectors.{row_size};
 ghost use Rattle.trop_theory.specs.Inequalities.{system_size};
 ghost use Rattle.trop_words.specs.declared.command.Command.TheVariants.{Tangent};
-ghost use Rattle.trop_files.specs.HeldPlaces.{place_file_of, IsWidePlace};
+ghost use Rattle.trop_files.specs.Views.{at_text_of, IsWideAt};
 ghost use Rattle.trop_files.specs.Sizes.{IsVisible};
 ghost use Rattle.tplib_tangent.specs.Tangent.{IsTangentAnswer};
 ghost use Rattle.tplib_cmd.specs.Answers.{IsPlaceAnswer};
@@ -34,9 +34,9 @@ pub(crate) fn look_at_file(alloc: Global, bytes: &[u8]) -> Result<Reply, Refusal
 }
 
 fn looked_at(alloc: Global, file: &AnyAt) -> Result<Reply, AllocError>
-    requires width { IsWidePlace file.now }
-    requires sizes { IsVisible (place_file_of file.now).place }
-    ensures { IfOk result (λ reply. IsPlaceAnswer (place_file_of file.now).names (place_file_of file.now).place reply.yes reply.text.items) }
+    requires width { IsWideAt file.now }
+    requires sizes { IsVisible (at_text_of file.now).body }
+    ensures { IfOk result (λ reply. IsPlaceAnswer (at_text_of file.now).names (at_text_of file.now).body reply.yes reply.text.items) }
 {
     match file {
         AnyAt::Max(file) => looked_at_one(alloc, file),

@@ -8,7 +8,9 @@ use Rattle.std.proofs.lemmas.Str.Parse.{digit_from_value}
 use Rattle.std.proofs.lemmas.Fmt.{signed_decimal_injective, decimal_is_IsNumeral}
 use Rattle.trop_theory.specs.Semiring.{Semiring}
 use Rattle.trop_theory.specs.Numbers.{Numbering, NumberLaws}
-use Rattle.trop_files.specs.Spelling.{RingKind, MaxKind, MinKind, BoolKind, KindLaws, IsTruthOnly, element_text}
+use Rattle.trop_spelling.specs.declared.ring_kind.RingKind.{RingKind}
+use Rattle.trop_spelling.specs.declared.ring_kind.RingKind.TheVariants.{Max as MaxKind, Min as MinKind, Bool as BoolKind}
+use Rattle.trop_spelling.specs.Spelling.{KindLaws, IsTruthOnly, element_text}
 use Rattle.tplib_laws.proofs.Splitting.{AreFrom, same_first}
 
 -- the number, if any, of an element of such a semiring, of a size that is printed whole

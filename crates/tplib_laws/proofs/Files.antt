@@ -5,8 +5,10 @@ use Rattle.std.proofs.lemmas.List.{append_cancel_left}
 use Rattle.std.proofs.lemmas.List.Elements.{All-head, All-tail}
 use Rattle.trop_theory.specs.Semiring.{Semiring}
 use Rattle.trop_theory.specs.Numbers.{Numbering, NumberLaws}
-use Rattle.trop_files.specs.Spelling.{RingKind, KindLaws}
-use Rattle.trop_files.specs.Printed.{numbers, generator_line, lines_of, printed_header, printed_gens}
+use Rattle.trop_spelling.specs.declared.ring_kind.RingKind.{RingKind}
+use Rattle.trop_spelling.specs.Spelling.{KindLaws}
+use Rattle.trop_spelling.specs.Printed.{numbers}
+use Rattle.trop_files.specs.PrintedFiles.{generator_line, lines_of, printed_header, printed_gens}
 use Rattle.tplib_laws.proofs.Splitting.{split, no_text}
 use Rattle.tplib_laws.proofs.Rows.{IsPrintable, line_injective, line_from, cons_equal}
 

@@ -6,8 +6,10 @@ use Rattle.trop_theory.specs.Semiring.{Semiring}
 use Rattle.trop_theory.specs.Numbers.{Numbering, NumberLaws}
 use Rattle.trop_theory.specs.Vectors.{entry, row_size}
 use Rattle.trop_theory.specs.Normal.{IsNormal}
-use Rattle.trop_files.specs.Spelling.{RingKind, KindLaws, element_text}
-use Rattle.trop_files.specs.Printed.{after_commas, comma_list, numbers, printed_row, generator_line}
+use Rattle.trop_spelling.specs.declared.ring_kind.RingKind.{RingKind}
+use Rattle.trop_spelling.specs.Spelling.{KindLaws, element_text}
+use Rattle.trop_spelling.specs.Printed.{after_commas, comma_list, numbers, printed_row}
+use Rattle.trop_files.specs.PrintedFiles.{generator_line}
 use Rattle.tplib_laws.proofs.Splitting.{same_first, AreFrom, AreFrom-append, AreFrom-weaker, split}
 use Rattle.tplib_laws.proofs.Elements.{element_injective, element_from, to_injective}
 

@@ -8,8 +8,9 @@ use Rattle.trop_theory.specs.Inequalities.{Inequality, Solves, system_size}
 use Rattle.trop_theory.specs.Combinations.{IsCombination}
 use Rattle.trop_theory.specs.Canonical.{IsCanonical}
 use Rattle.trop_theory.proofs.Unique.{IsCanonical-unique}
-use Rattle.trop_files.specs.Spelling.{RingKind, KindLaws}
-use Rattle.trop_files.specs.Printed.{printed_gens}
+use Rattle.trop_spelling.specs.declared.ring_kind.RingKind.{RingKind}
+use Rattle.trop_spelling.specs.Spelling.{KindLaws}
+use Rattle.trop_files.specs.PrintedFiles.{printed_gens}
 use Rattle.tplib_cmd.specs.Answers.{IsReduced, IsConverted}
 use Rattle.tplib_laws.proofs.Rows.{IsPrintable}
 use Rattle.tplib_laws.proofs.Files.{printed_injective}

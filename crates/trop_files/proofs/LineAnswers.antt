@@ -10,23 +10,25 @@ use Rattle.trop_text.specs.declared.fault.Fault.{Fault}
 use Rattle.trop_text.specs.declared.fault.FaultKind.{FaultKind}
 use Rattle.trop_text.specs.declared.fault.TextErr.{TextErr}
 use Rattle.trop_text.specs.declared.fault.TextErr.TheVariants as errors
-use Rattle.trop_files.specs.declared.read_err.ReadErr.{ReadErr}
-use Rattle.trop_files.specs.declared.read_err.ReadErr.TheVariants as reads
-use Rattle.trop_files.specs.Spelling.{RingKind, KindLaws}
+use Rattle.trop_reading.specs.declared.read_err.ReadErr.{ReadErr}
+use Rattle.trop_reading.specs.declared.read_err.ReadErr.TheVariants as reads
+use Rattle.trop_spelling.specs.declared.ring_kind.RingKind.{RingKind}
+use Rattle.trop_spelling.specs.Spelling.{KindLaws}
 use Rattle.trop_files.specs.Generators.{greatest_number}
-use Rattle.trop_files.specs.Inequalities.{IsInequality}
-use Rattle.trop_files.specs.InequalityFiles.{most_inequalities, AnyInequalities, SpellsInequalities, inequality_file_at}
-use Rattle.trop_files.specs.InequalityLines.{AreBodies, LineReader, file_given, GivesLine, GivesNext, IsAtEnd, line_at, first_of, IsSound}
-use Rattle.trop_files.specs.Gives.{Fails, IsToldAs}
-use Rattle.trop_files.specs.Outcome.{Answers, IsRefusal}
-use Rattle.trop_files.proofs.ReadSizes.{line_size}
+use Rattle.trop_spelling.specs.Inequalities.{IsInequality}
+use Rattle.trop_files.specs.InequalityFiles.{most_inequalities, SpellsInequalities, inequality_file_at}
+use Rattle.trop_files.specs.InequalityLines.{LineReader, file_given, GivesLine, GivesNext, IsAtEnd, line_at, first_of, IsSound}
+use Rattle.trop_reading.specs.Gives.{Fails, IsPlaced}
+use Rattle.trop_reading.specs.Outcome.{AnswersWith, IsRefusal}
+use Rattle.trop_spelling.specs.Over.{Embedding, IsOneOfThree}
+use Rattle.trop_spelling.proofs.ReadSizes.{inequality_size-read}
 use Rattle.trop_files.proofs.LineSteps.{same_read, line_below, end_none}
 use Rattle.trop_files.proofs.LineFiles.{given_length, more_given, more_behind, next_whole, next_only, text_spelled, text_at_end, text_refused}
 
 -- where a value is read, a refusal is for want of memory
-not_told : {X : Type 0} (bytes : List ℕ) (e : ReadErr) (told : TextErr) (r : Reading Piece FaultKind X) (v : X × List Piece) (value : X) → Fails e r → IsToldAs bytes e told → r ≡ Ok v → Answers {X = X} (λ o. o) (Err told) value
-not_told bytes reads.NoMemory told r v value h is e = subst (λ t. Answers (λ o. o) (Err t) value) (sym is) tt
-not_told bytes (reads.Wrong what at) told r v value h is e = absurd (subst (Fails (reads.Wrong what at)) e h)
+not_refused : {X : Type 0} (bytes : List ℕ) (e : ReadErr) (refusal : TextErr) (r : Reading Piece FaultKind X) (v : X × List Piece) (value : X) → Fails e r → IsPlaced bytes e refusal → r ≡ Ok v → AnswersWith {X = X} (λ o. o) (Err refusal) value
+not_refused bytes reads.NoMemory refusal r v value h is e = subst (λ t. AnswersWith (λ o. o) (Err t) value) (sym is) tt
+not_refused bytes (reads.Wrong what at) refusal r v value h is e = absurd (subst (Fails (reads.Wrong what at)) e h)
 
 module _ {V : Type 0} (kind : RingKind) (R : Semiring V) (N : Numbering V) (bytes : List ℕ) (names : List (List ℕ)) (failed : Option Fault) where
   -- what contracts see of a reader behind k lines
@@ -69,7 +71,7 @@ module _ {V : Type 0} (kind : RingKind) (R : Semiring V) (N : Numbering V) (byte
 
       size_of : SemiringLaws R → (reversed : Bool) → KindLaws kind R N reversed → (v : Option (Inequality V)) → line_at kind R N names k left ≡ Ok (v, us) → IfSome v (λ x. inequality_size R x ≤ 2 ^ 40)
       size_of laws reversed kinds None h = tt
-      size_of laws reversed kinds (Some x) h = let next = next_whole kind R N bytes names k left sound.behind x us h in line_size laws kind N reversed names next.0 x kinds next.2
+      size_of laws reversed kinds (Some x) h = let next = next_whole kind R N bytes names k left sound.behind x us h in inequality_size-read laws kind N reversed greatest_number names next.0 x kinds next.2
 
       pub next_size : SemiringLaws R → (reversed : Bool) → KindLaws kind R N reversed → IfSome o (λ x. inequality_size R x ≤ 2 ^ 40)
       next_size laws reversed kinds = size_of laws reversed kinds o e
@@ -81,41 +83,41 @@ module _ {V : Type 0} (kind : RingKind) (R : Semiring V) (N : Numbering V) (byte
       pub next_count : IfSome o (λ x. length old.given < most_inequalities)
       next_count = subst (λ (r : LineReader V). IfSome o (λ x. length r.given < most_inequalities)) is (count_of o e)
 
-    module _ {any : List (Inequality V) → AnyInequalities} (bodies : AreBodies kind R N any) (old : LineReader V) (is : shown k left ≡ old) where
+    module _ {over : Embedding V} (one : IsOneOfThree V kind R N over) (old : LineReader V) (is : shown k left ≡ old) where
       given_from : (o : Option (Inequality V)) (us : List Piece) (new : LineReader V) → line_at kind R N names k left ≡ Ok (o, us)
           → ((is_some o ≡ true) × (new ≡ shown (k + 1) us)) ⊎ ((is_some o ≡ false) × (new ≡ shown k left)) → GivesNext kind R N (shown k left) new o
       given_from (Some x) us new e (inl h) = subst (λ n. GivesNext kind R N (shown k left) n (Some x)) (sym h.1) (gives_line x us e)
       given_from (Some x) us new e (inr h) = absurd (let b = h.0 in cc)
       given_from None us new e (inl h) = absurd (let b = h.0 in cc)
-      given_from None us new e (inr h) = (text_at_end kind R N bytes names k left sound.behind bodies sound.count us e, h.1)
+      given_from None us new e (inr h) = (text_at_end kind R N bytes names k left sound.behind one sound.count us e, h.1)
 
       pub next_given : (o : Option (Inequality V)) (us : List Piece) (new : LineReader V) → line_at kind R N names k left ≡ Ok (o, us)
           → ((is_some o ≡ true) × (new ≡ shown (k + 1) us)) ⊎ ((is_some o ≡ false) × (new ≡ shown k left)) → GivesNext kind R N old new o
       next_given o us new e by = subst (λ (r : LineReader V). GivesNext kind R N r new o) is (given_from o us new e by)
 
-      found_from : (o : Option (Inequality V)) (us : List Piece) → line_at kind R N names k left ≡ Ok (o, us) → IfNone o (SpellsInequalities (pieces_of bytes) (file_given any (shown k left)))
+      found_from : (o : Option (Inequality V)) (us : List Piece) → line_at kind R N names k left ≡ Ok (o, us) → IfNone o (SpellsInequalities (pieces_of bytes) (file_given over (shown k left)))
       found_from (Some x) us e = tt
-      found_from None us e = text_spelled kind R N bytes names k left sound.behind bodies sound.count us e
+      found_from None us e = text_spelled kind R N bytes names k left sound.behind one sound.count us e
 
-      pub next_found : (o : Option (Inequality V)) (us : List Piece) → line_at kind R N names k left ≡ Ok (o, us) → IfNone o (SpellsInequalities (pieces_of old.bytes) (file_given any old))
-      next_found o us e = subst (λ (r : LineReader V). IfNone o (SpellsInequalities (pieces_of r.bytes) (file_given any r))) is (found_from o us e)
+      pub next_found : (o : Option (Inequality V)) (us : List Piece) → line_at kind R N names k left ≡ Ok (o, us) → IfNone o (SpellsInequalities (pieces_of old.bytes) (file_given over old))
+      next_found o us e = subst (λ (r : LineReader V). IfNone o (SpellsInequalities (pieces_of r.bytes) (file_given over r))) is (found_from o us e)
 
     -- ---- refusals
 
-    module _ (e : ReadErr) (told : TextErr) (fails : Fails e (line_at kind R N names k left)) (told_is : IsToldAs bytes e told) where
-      pub refused_only : (old : LineReader V) → shown k left ≡ old → length old.given < most_inequalities → (line rest : List Piece) (x : Inequality V) → old.left ≡ line ++ rest → IsInequality kind R N greatest_number old.names line x → Answers {X = Option (Inequality V)} (λ o. o) (Err told) (Some x)
+    module _ (e : ReadErr) (refusal : TextErr) (fails : Fails e (line_at kind R N names k left)) (placed : IsPlaced bytes e refusal) where
+      pub refused_only : (old : LineReader V) → shown k left ≡ old → length old.given < most_inequalities → (line rest : List Piece) (x : Inequality V) → old.left ≡ line ++ rest → IsInequality kind R N greatest_number old.names line x → AnswersWith {X = Option (Inequality V)} (λ o. o) (Err refusal) (Some x)
       refused_only old is =
-          subst (λ (r : LineReader V). length r.given < most_inequalities → (line rest : List Piece) (x : Inequality V) → r.left ≡ line ++ rest → IsInequality kind R N greatest_number r.names line x → Answers {X = Option (Inequality V)} (λ o. o) (Err told) (Some x)) is
-          (λ fewer line rest x whole spells. not_told bytes e told (line_at kind R N names k left) (Some x, rest) (Some x) fails told_is (next_only kind R N bytes names k left sound.behind line rest x (below fewer) whole spells))
+          subst (λ (r : LineReader V). length r.given < most_inequalities → (line rest : List Piece) (x : Inequality V) → r.left ≡ line ++ rest → IsInequality kind R N greatest_number r.names line x → AnswersWith {X = Option (Inequality V)} (λ o. o) (Err refusal) (Some x)) is
+          (λ fewer line rest x whole spells. not_refused bytes e refusal (line_at kind R N names k left) (Some x, rest) (Some x) fails placed (next_only kind R N bytes names k left sound.behind line rest x (below fewer) whole spells))
 
-      pub refused_end : (old : LineReader V) → shown k left ≡ old → IsAtEnd old → Answers {X = Option (Inequality V)} (λ o. o) (Err told) None
-      refused_end old is = subst (λ (r : LineReader V). IsAtEnd r → Answers {X = Option (Inequality V)} (λ o. o) (Err told) None) is (λ ended. not_told bytes e told (line_at kind R N names k left) (None, []) None fails told_is (end_none kind R N names k left [] ended))
+      pub refused_end : (old : LineReader V) → shown k left ≡ old → IsAtEnd old → AnswersWith {X = Option (Inequality V)} (λ o. o) (Err refusal) None
+      refused_end old is = subst (λ (r : LineReader V). IsAtEnd r → AnswersWith {X = Option (Inequality V)} (λ o. o) (Err refusal) None) is (λ ended. not_refused bytes e refusal (line_at kind R N names k left) (None, []) None fails placed (end_none kind R N names k left [] ended))
 
-      pub line_refused : {any : List (Inequality V) → AnyInequalities} → AreBodies kind R N any → IsRefusal SpellsInequalities inequality_file_at bytes told
-      line_refused bodies = text_refused kind R N bytes names k left sound.behind bodies sound.count e told fails told_is
+      pub line_refused : {over : Embedding V} → IsOneOfThree V kind R N over → IsRefusal SpellsInequalities inequality_file_at bytes refusal
+      line_refused one = text_refused kind R N bytes names k left sound.behind one sound.count e refusal fails placed
 
-      pub next_refused : {any : List (Inequality V) → AnyInequalities} → AreBodies kind R N any → (old : LineReader V) → shown k left ≡ old → IsRefusal SpellsInequalities inequality_file_at old.bytes told
-      next_refused bodies old is = subst (λ (r : LineReader V). IsRefusal SpellsInequalities inequality_file_at r.bytes told) is (line_refused bodies)
+      pub next_refused : {over : Embedding V} → IsOneOfThree V kind R N over → (old : LineReader V) → shown k left ≡ old → IsRefusal SpellsInequalities inequality_file_at old.bytes refusal
+      next_refused one old is = subst (λ (r : LineReader V). IsRefusal SpellsInequalities inequality_file_at r.bytes refusal) is (line_refused one)
 
     pub sound_fault : (f : Fault) → IsRefusal SpellsInequalities inequality_file_at bytes (errors.Fault f) → IsSound kind R N bytes names k left (Some f)
     sound_fault f fault = record { small = sound.small; few = sound.few; count = sound.count; behind = sound.behind; fault = fault }

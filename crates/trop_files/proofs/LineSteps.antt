@@ -1,4 +1,6 @@
 -- A list of inequalities is read the same line by line.
+-- Index: read_ok, same_read, Xs, start, item, last, line_below, rest_of, list_ends, list_stops, ends_input, end_none,
+-- line_is, line_from, first_more, first_length, reads_on.
 use Rattle.std.proofs.Common.{◌≡◌, ◌<◌, ◌≤◌, ◌+◌, ◌-◌, ◌⊎◌, inl, inr, ℕ, zero, suc, Bool, true, false, Option, Some, None, List, [], ◌∷◌, ◌++◌, length, Result, Ok, Err, refl, sym, ap, ◌∙◌, arith, add-one, length-append}
 use Rattle.std.specs.Prelude.{nat_lt, if◌then◌else◌}
 use Rattle.std.proofs.lemmas.Bool.{lt-ltb, le-ltb, cases_lt}
@@ -12,11 +14,12 @@ use Rattle.trop_grammar.proofs.Loops.{list-start, list-more, list-done, list-fai
 use Rattle.trop_text.specs.Pieces.{Piece, Token, LineEnd, InputEnd}
 use Rattle.trop_text.specs.declared.fault.FaultKind.{FaultKind}
 use Rattle.trop_text.specs.declared.fault.FaultKind.TheVariants.{Syntax}
-use Rattle.trop_files.specs.declared.terms.Start.{Start}
-use Rattle.trop_files.specs.Spelling.{RingKind, MaxKind, MinKind, BoolKind}
-use Rattle.trop_files.specs.Words.{is_input_end, passed}
+use Rattle.trop_spelling.specs.declared.terms.Start.{Start}
+use Rattle.trop_spelling.specs.declared.ring_kind.RingKind.{RingKind}
+use Rattle.trop_spelling.specs.declared.ring_kind.RingKind.TheVariants.{Max as MaxKind, Min as MinKind, Bool as BoolKind}
+use Rattle.trop_reading.specs.Words.{is_input_end, passed}
 use Rattle.trop_files.specs.Generators.{greatest_number}
-use Rattle.trop_files.specs.Inequalities.{variable, max_term, term_start, side_start, inequality_at, inequality_rest_at}
+use Rattle.trop_spelling.specs.Inequalities.{variable, max_term, term_start, side_start, inequality_at, inequality_rest_at}
 use Rattle.trop_files.specs.InequalityFiles.{most_inequalities, past_inequalities, next_inequality, no_inequality, inequalities_at}
 use Rattle.trop_files.specs.InequalityLines.{next_start, line_rest_at, line_at, first_at}
 

@@ -1,412 +1,196 @@
--- The numbers of a file are so small that its rows can be reduced.
-use Rattle.std.proofs.Common.{◌≡◌, ◌+◌, ◌≤◌, ◌<◌, ◌^◌, ◌⊎◌, inl, inr, ℕ, zero, suc, Bool, true, false, List, [], ◌∷◌, ◌++◌, length, All, Option, Some, None, Result, Ok, Err, sym, subst, ap, ◌∙◌, refl, arith}
-use Rattle.std.specs.Prelude.{ℤ, pos, neg_ℤ, unsigned_abs, nat_le, if◌then◌else◌, codes}
-use Rattle.std.proofs.lemmas.List.Elements.{All-nil, All-cons, All-head, All-tail, All-filter, All-append, All-set, All-replicate}
+-- What a file says is what a file may hold, so its rows can be reduced, its inequalities converted, and its vector looked at.
+-- Index: generators_held, inequalities_held, at_held, two_held, header_few, gens_held, ineqs_held, pair_held,
+-- at_file_held, file_small, inequalities_convertible, at_visible.
+use Rattle.std.proofs.Common.{◌≡◌, ◌≤◌, ◌+◌, ◌^◌, ℕ, Bool, true, false, List, [], ◌∷◌, ◌++◌, length, Some, Result, Ok, Err, sym, subst, ap, ◌∙◌, arith}
+use Rattle.std.proofs.lemmas.List.Elements.{All-nil, All-cons, All-filter}
+use Rattle.std.specs.Prelude.{All, if◌then◌else◌, codes, filter, cond}
+use Rattle.std.specs.List.{list_any}
 use Rattle.trop_theory.specs.Semiring.{Semiring, SemiringLaws}
-use Rattle.trop_theory.specs.Numbers.{Numbering, NumericLaws}
-use Rattle.trop_theory.specs.Vectors.{row_size, rows_size, entry, bottom}
-use Rattle.trop_scalar.specs.MaxPlusLaws.{max_laws, max_numeric_laws}
-use Rattle.trop_scalar.specs.MinPlusLaws.{min_laws, min_numeric_laws}
-use Rattle.trop_scalar.specs.Truth.{truth_ring}
-use Rattle.trop_grammar.specs.Grammar.{Repeated, Optional, LeftOut, Written}
-use Rattle.trop_grammar.specs.Lists.{Passes, next_or_end, Item, AreItems, AreSeparated}
+use Rattle.trop_theory.specs.Numbers.{Numbering}
+use Rattle.trop_theory.specs.Vectors.{AreWide, row_size, rows_size}
+use Rattle.trop_theory.specs.Inequalities.{Inequality, IsIn, system_size}
+use Rattle.trop_grammar.specs.Lists.{next_or_end, Item, AreItems}
 use Rattle.trop_text.specs.Pieces.{Piece}
 use Rattle.trop_text.specs.declared.fault.FaultKind.{FaultKind}
-use Rattle.trop_files.specs.Spelling.{RingKind, MaxKind, MinKind, BoolKind, sum_word, IsTruthOnly, KindLaws}
-use Rattle.trop_files.specs.Words.{says, number, passed, is_input_end, is_digits, text_of}
-use Rattle.trop_text.specs.Digits.{number_of}
-use Rattle.trop_text.specs.declared.fault.FaultKind.TheVariants.{Syntax, NumberRange}
-use Rattle.std.proofs.lemmas.Bool.Decides.{leb_tells}
-use Rattle.trop_files.specs.Elements.{max_start, max_behind, min_behind, Behind, IsElement, IsNextEntry, IsRow}
-use Rattle.trop_files.specs.Generators.{generator_word, next_generator, IsGenerator, AreGenerators, greatest_number, AnyRows, GeneratorFile, IsGeneratorBody, SpellsGenerators}
-use Rattle.trop_files.specs.Inequalities.{known, variable, max_term, term_start, shift_sign, shift, term, IsShifted, IsNumericRest, truth_term, IsTermRest, IsTerm, side_start, between_terms, IsSideRest, with_term, with_terms, coefficients, inequality, IsInequalityRest, IsInequality}
-use Rattle.trop_files.specs.InequalityFiles.{next_inequality, AreInequalities, AnyInequalities, InequalityFile, IsInequalityBody, SpellsInequalities}
-use Rattle.trop_files.specs.declared.terms.Term.{Term}
-use Rattle.trop_files.specs.declared.terms.Start.{Start}
-use Rattle.trop_files.specs.declared.terms.Start.TheVariants.{Constant, Minus, Variable}
-use Rattle.trop_text.specs.Name.{is_name}
-use Rattle.trop_text.specs.Names.{place_of}
-use Rattle.trop_theory.specs.Inequalities.{Inequality, inequality_size, system_size}
-use Rattle.trop_files.specs.Header.{Header}
-use Rattle.trop_files.specs.Sizes.{AreSmall, IsConvertible, IsVisible}
-use Rattle.trop_files.specs.AtFiles.{Place, AnyPlace, PlaceFile, IsPlace, IsPlaceBody, SpellsPlace}
+use Rattle.trop_text.specs.declared.fault.FaultKind.TheVariants.{Syntax}
+use Rattle.trop_reading.specs.Words.{says, is_input_end}
+use Rattle.trop_spelling.specs.declared.ring_kind.RingKind.{RingKind}
+use Rattle.trop_spelling.specs.Spelling.{KindLaws}
+use Rattle.trop_spelling.specs.Over.{Over, Holds}
+use Rattle.trop_spelling.specs.Inequalities.{side_start, IsInequalityRest, IsInequality}
+use Rattle.trop_spelling.proofs.EachKind.{holds_in_kind, Holds-weaker}
+use Rattle.trop_spelling.proofs.Lengths.{length-row, IsIn-inequality}
+use Rattle.trop_spelling.proofs.ReadSizes.{row_size-read, inequality_size-read}
+use Rattle.trop_files.specs.declared.list_end.ListEnd.TheVariants.{And, Input, At as AtWord}
 use Rattle.trop_files.specs.ListEnds.{ends}
-use Rattle.trop_files.specs.declared.list_end.ListEnd.TheVariants.{At}
-
--- ---- numbers
-
-number_below : (digits inside : Bool) (value bound n : ℕ) → ((inside ≡ true) → value ≤ bound) → (let r : Result ℕ FaultKind = if digits then (if inside then Ok value else Err NumberRange) else Err Syntax in r) ≡ Ok n → n ≤ bound
-number_below true true value bound n below e = let same : value ≡ n = cc in subst (λ v. v ≤ bound) same (below refl)
-number_below true false value bound n below e = cc
-number_below false inside value bound n below e = cc
-
-le_of_test : (a b : ℕ) → ((nat_le a b ≡ true) × (a ≤ b)) ⊎ ((nat_le a b ≡ false) × (b < a)) → nat_le a b ≡ true → a ≤ b
-le_of_test a b (inl h) e = h.1
-le_of_test a b (inr h) e = absurd (false_true (sym h.0 ∙ e))
-  where
-    false_true : false ≡ true → ⊥
-    false_true e = cc
-
-number_bound : (bound n : ℕ) (p : Piece) → number bound p ≡ Ok n → n ≤ bound
-unfolding number
-number_bound bound n p e = number_below (is_digits p) (nat_le (number_of (text_of p)) bound) (number_of (text_of p)) bound n (le_of_test (number_of (text_of p)) bound (leb_tells (number_of (text_of p)) bound)) e
-
--- what a judge let pass stands for a number that it let pass
-passed_number : {B : Type 0} (f : ℕ → B) (bound : ℕ) (p : Piece) (r : Result ℕ FaultKind) (y : B) → ((n : ℕ) → r ≡ Ok n → n ≤ bound) → passed f r ≡ Ok y → (n : ℕ) × (n ≤ bound) × (f n ≡ y)
-passed_number f bound p (Ok n) y below e = let same : f n ≡ y = cc in (n, below n refl, same)
-passed_number f bound p (Err what) y below e = cc
-
-abs_neg : (n : ℕ) → unsigned_abs (neg_ℤ (pos n)) ≡ n
-abs_neg zero = refl
-abs_neg (suc n) = refl
-
-All-one : {X : Type 0} (P : X → Type 0) (x : X) → P x → All P (x ∷ [])
-All-one P x p = All-cons P x [] p (All-nil P)
+use Rattle.trop_files.specs.Generators.{Rows, generator_word, next_generator, IsGenerator, AreGenerators, greatest_number, GeneratorFile, AreGeneratorsOf, SpellsGenerators, is_finite}
+use Rattle.trop_files.specs.InequalityFiles.{next_inequality, AreInequalities, InequalityFile, AreInequalitiesOf, SpellsInequalities}
+use Rattle.trop_files.specs.AtFiles.{At, AtText, IsAt, IsAtOf, SpellsAt}
+use Rattle.trop_files.specs.Header.{Header, IsHeader, most_names}
+use Rattle.trop_files.specs.PairFiles.{Two, TwoFile, AreTwo, AreTwoOf, SpellsTwo}
+use Rattle.trop_files.specs.FileLimits.{AreFileRows, AreFileInequalities, AreFileTwo, IsFileAt, HoldsRows, HoldsInequalities, HoldsTwo, HoldsAt}
+use Rattle.trop_files.specs.Sizes.{AreSmall, IsConvertible, IsVisible}
 
 begun_at : {C W : Type 0} (ended : Bool) (word : Result C W) (x : C) → next_or_end ended word ≡ Ok (Some x) → word ≡ Ok x
 begun_at true word x e = cc
 begun_at false (Ok y) x e = let same : y ≡ x = cc in ap Ok same
 begun_at false (Err what) x e = cc
 
--- ---- elements and rows of numbers
+module _ {V : Type 0} {R : Semiring V} (laws : SemiringLaws R) (kind : RingKind) (N : Numbering V) (reversed : Bool) (known : KindLaws kind R N reversed) where
+  -- ---- generators
 
-module _ {V : Type 0} {R : Semiring V} {N : Numbering V} {reversed : Bool} (laws : SemiringLaws R) (numeric : NumericLaws R N reversed) where
-  abbrev IsSmall : ℕ → V → Type 0
-  IsSmall bound x = R.size x ≤ bound
+  -- the entry in front is the one or the zero
+  word_small : (point ray : Bool) (x : V) → (let r : Result V FaultKind = if point then Ok R.one else (if ray then Ok R.zero else Err Syntax) in r) ≡ Ok x → R.size x ≤ greatest_number
+  word_small true ray x e = let same : R.one ≡ x = cc in subst (λ y. R.size y ≤ greatest_number) same (subst (λ s. s ≤ greatest_number) (sym laws.size_one) (omega arith))
+  word_small false true x e = let same : R.zero ≡ x = cc in subst (λ y. R.size y ≤ greatest_number) same (subst (λ s. s ≤ greatest_number) (sym laws.size_zero) (omega arith))
+  word_small false false x e = cc
 
-  size-of : (z : ℤ) → R.size (N.of z) ≡ unsigned_abs z
-  size-of z = numeric.size (N.of z) z (numeric.to-of z)
-
-  small_number : (bound n : ℕ) (z : ℤ) (x : V) → unsigned_abs z ≡ n → n ≤ bound → N.of z ≡ x → IsSmall bound x
-  small_number bound n z x e h same = subst (λ s. s ≤ bound) (sym (ap R.size (sym same) ∙ size-of z ∙ e)) h
-
-  -- the first token of an element gives a small one, or none yet
-  start_small : (bound : ℕ) (p : Piece) (minus : Bool) (x : V) → (let r : Result (Option V) FaultKind = if minus then Ok None else passed (λ n. Some (N.of (pos n))) (number bound p) in r) ≡ Ok (Some x) → IsSmall bound x
-  start_small bound p true x e = cc
-  start_small bound p false x e =
-      let found = passed_number (λ n. Some (N.of (pos n))) bound p (number bound p) (Some x) (λ n. number_bound bound n p) e in
-      let same : N.of (pos found.0) ≡ x = cc in
-      small_number bound found.0 (pos found.0) x refl found.1 same
-
-  zero_or : (bound : ℕ) (oo : Bool) (other : Result V FaultKind) (x : V) → ((other ≡ Ok x) → IsSmall bound x) → (let r : Result V FaultKind = if oo then Ok R.zero else other in r) ≡ Ok x → IsSmall bound x
-  zero_or bound true other x h e = let same : R.zero ≡ x = cc in subst (IsSmall bound) same (subst (λ s. s ≤ bound) (sym laws.size_zero) (omega arith))
-  zero_or bound false other x h e = h e
-
-  minus_small : (bound : ℕ) (p : Piece) (x : V) → passed (λ n. N.of (neg_ℤ (pos n))) (number bound p) ≡ Ok x → IsSmall bound x
-  minus_small bound p x e =
-      let found = passed_number (λ n. N.of (neg_ℤ (pos n))) bound p (number bound p) x (λ n. number_bound bound n p) e in
-      small_number bound found.0 (neg_ℤ (pos found.0)) x (abs_neg found.0) found.1 found.2
-
-  min_start_small : (bound : ℕ) (p : Piece) (oo : Bool) (x : V) → (let r : Result (Option V) FaultKind = if oo then Ok (Some R.zero) else max_start N bound p in r) ≡ Ok (Some x) → IsSmall bound x
-  min_start_small bound p true x e = let same : R.zero ≡ x = cc in subst (IsSmall bound) same (subst (λ s. s ≤ bound) (sym laws.size_zero) (omega arith))
-  min_start_small bound p false x e = start_small bound p (says (codes "-") p) x e
-
-  -- behind the first token
-  behind_small : (bound : ℕ) (behind : Piece → Result V FaultKind) (first : Option V) (us : List Piece) (x : V) → ((y : V) → first ≡ Some y → IsSmall bound y) → ((p : Piece) → behind p ≡ Ok x → IsSmall bound x) → Behind behind first us x → IsSmall bound x
-  behind_small bound behind (Some y) us x first rest b = first x (ap Some (sym b.is))
-  behind_small bound behind None us x first rest b = rest b.token b.is
-
-  max_element_small : (bound : ℕ) (us : List Piece) (x : V) → IsElement MaxKind R N bound us x → IsSmall bound x
-  unfolding IsElement
-  max_element_small bound us x e =
-      behind_small bound (max_behind R N bound) e.value e.back x (λ y same. start_small bound e.first.token (says (codes "-") e.first.token) y (e.first.is ∙ ap Ok same))
-      (λ p b. zero_or bound (says (codes "oo") p) (passed (λ n. N.of (neg_ℤ (pos n))) (number bound p)) x (minus_small bound p x) b) e.second
-
-  min_element_small : (bound : ℕ) (us : List Piece) (x : V) → IsElement MinKind R N bound us x → IsSmall bound x
-  unfolding IsElement
-  min_element_small bound us x e =
-      behind_small bound (min_behind N bound) e.value e.back x (λ y same. min_start_small bound e.first.token (says (codes "oo") e.first.token) y (e.first.is ∙ ap Ok same)) (λ p b. minus_small bound p x b) e.second
-
-  -- entries one after another
-  entries_small : (kind : RingKind) (bound n : ℕ) (before : List V) (us : List Piece) (xs : List V) → ((us : List Piece) (x : V) → IsElement kind R N bound us x → IsSmall bound x)
-      → All (IsSmall bound) before → Repeated (IsNextEntry kind R N bound) n before us xs → All (IsSmall bound) xs
-  unfolding Repeated
-  entries_small kind bound zero before us xs element h r = subst (All (IsSmall bound)) (sym r.is) h
-  entries_small kind bound (suc n) before us xs element h r =
-      let more = r.first.second in
-      let one : All (IsSmall bound) (before ++ more.value ∷ []) = All-append (IsSmall bound) before (more.value ∷ []) h (All-one (IsSmall bound) more.value (element more.front more.value more.first)) in
-      entries_small kind bound n r.value r.back xs element (subst (All (IsSmall bound)) (sym more.second.is) one) r.second
-
-  row_small : (kind : RingKind) (bound vars : ℕ) (us : List Piece) (xs : List V) → ((us : List Piece) (x : V) → IsElement kind R N bound us x → IsSmall bound x) → IsRow kind R N bound vars us xs → All (IsSmall bound) xs
-  unfolding IsRow
-  row_small kind bound zero us xs element r = subst (All (IsSmall bound)) (sym r.second.second.is) (All-nil (IsSmall bound))
-  row_small kind bound (suc n) us xs element r =
-      let first = r.second in
-      let rest = first.second in
-      subst (All (IsSmall bound)) (sym rest.second.second.is) (entries_small kind bound n (first.value ∷ []) rest.front rest.value element (All-one (IsSmall bound) first.value (element first.front first.value first.first)) rest.first)
-
-  -- the entry in front: the one or the zero
-  word_small : (bound : ℕ) (point ray : Bool) (x : V) → (let r : Result V FaultKind = if point then Ok R.one else (if ray then Ok R.zero else Err Syntax) in r) ≡ Ok x → IsSmall bound x
-  word_small bound true ray x e = let same : R.one ≡ x = cc in subst (IsSmall bound) same (subst (λ s. s ≤ bound) (sym laws.size_one) (omega arith))
-  word_small bound false true x e = let same : R.zero ≡ x = cc in subst (IsSmall bound) same (subst (λ s. s ≤ bound) (sym laws.size_zero) (omega arith))
-  word_small bound false false x e = cc
-
-  begun : (ended : Bool) (word : Result V FaultKind) (x : V) → next_or_end ended word ≡ Ok (Some x) → word ≡ Ok x
-  begun true word x e = cc
-  begun false (Ok y) x e = let same : y ≡ x = cc in ap Ok same
-  begun false (Err what) x e = cc
-
-  first_small : (bound : ℕ) (p : Piece) (x : V) → generator_word R p ≡ Ok x → IsSmall bound x
+  first_small : (p : Piece) (x : V) → generator_word R p ≡ Ok x → R.size x ≤ greatest_number
   unfolding generator_word
-  first_small bound p x e = word_small bound (says (codes "point") p) (says (codes "ray") p) x e
+  first_small p x e = word_small (says (codes "point") p) (says (codes "ray") p) x e
 
-  generators_small : (kind : RingKind) (vars : ℕ) (ends : Piece → Bool) (before : List (List V)) (us : List Piece) (rows : List (List V)) → ((us : List Piece) (x : V) → IsElement kind R N greatest_number us x → IsSmall greatest_number x)
-      → AreItems (Item (next_generator R ends) (λ rows. IsGenerator kind R N vars)) before us rows → All (All (IsSmall greatest_number)) rows
-  generators_small kind vars ends before us [] element are = All-nil (All (IsSmall greatest_number))
-  generators_small kind vars ends before us (row ∷ rows) element (vs, ws, whole, line, more) =
+  generator_small : (vars : ℕ) (first : V) (us : List Piece) (row : List V) → R.size first ≤ greatest_number → IsGenerator kind R N vars first us row → row_size R row ≤ greatest_number
+  generator_small vars first us row small g =
+      let entries = row_size-read laws kind N reversed greatest_number vars g.front g.value known g.first in
+      subst (λ x. row_size R x ≤ greatest_number) (sym g.second.second.is) (let all : row_size R (first ∷ g.value) ≤ greatest_number = omega arith in all)
+
+  generator_lines_small : (vars : ℕ) (ends : Piece → Bool) (before : List (List V)) (us : List Piece) (rows : List (List V)) → AreItems (Item (next_generator R ends) (λ rows. IsGenerator kind R N vars)) before us rows → rows_size R rows ≤ greatest_number
+  generator_lines_small vars ends before us [] are = omega arith
+  generator_lines_small vars ends before us (row ∷ rows) (vs, ws, whole, line, more) =
       let token = line.first.token in
-      let rest = line.second in
-      let first : IsSmall greatest_number line.value = first_small greatest_number token line.value (begun (ends token) (generator_word R token) line.value line.first.is) in
-      let entries = row_small kind greatest_number vars rest.front rest.value element rest.first in
-      All-cons (All (IsSmall greatest_number)) row rows (subst (All (IsSmall greatest_number)) (sym rest.second.second.is) (All-cons (IsSmall greatest_number) line.value rest.value first entries))
-      (generators_small kind vars ends (before ++ row ∷ []) ws rows element more)
-
-  row_size-le : (bound : ℕ) (x : List V) → All (IsSmall bound) x → row_size R x ≤ bound
-  row_size-le bound [] h = omega arith
-  row_size-le bound (a ∷ x) h = let first = All-head (IsSmall bound) a x h in let more = row_size-le bound x (All-tail (IsSmall bound) a x h) in omega arith
-
-  rows_size-le : (bound : ℕ) (rows : List (List V)) → All (All (IsSmall bound)) rows → rows_size R rows ≤ bound
-  rows_size-le bound [] h = omega arith
-  rows_size-le bound (x ∷ rows) h =
-      let row = row_size-le bound x (All-head (All (IsSmall bound)) x rows h) in let more = rows_size-le bound rows (All-tail (All (IsSmall bound)) x rows h) in omega arith
-
-  pub generators_small_enough : (kind : RingKind) (vars : ℕ) (ends : Piece → Bool) (us : List Piece) (rows : List (List V)) → ((us : List Piece) (x : V) → IsElement kind R N greatest_number us x → IsSmall greatest_number x)
-      → AreGenerators kind R N vars ends us rows → rows_size R rows ≤ 2 ^ 59
-  generators_small_enough kind vars ends us rows element are =
-      let lines = generators_small kind vars ends [] are.first.items are.value element are.first.are in
-      let small = rows_size-le greatest_number rows (subst (All (All (IsSmall greatest_number))) (sym are.second.is) (All-filter _ (All (IsSmall greatest_number)) are.value lines)) in
+      let word = first_small token line.value (begun_at (ends token) (generator_word R token) line.value line.first.is) in
+      let first = generator_small vars line.value line.back row word line.second in
+      let others = generator_lines_small vars ends (before ++ row ∷ []) ws rows more in
       omega arith
 
-  -- ---- terms, sides and inequalities of numbers
+  rows_size-filter : (keeps : List V → Bool) (rows : List (List V)) → rows_size R rows ≤ greatest_number → rows_size R (filter keeps rows) ≤ greatest_number
+  rows_size-filter keeps [] s = s
+  rows_size-filter keeps (x ∷ rows) s = by (keeps x) (rows_size-filter keeps rows (omega arith))
+    where
+      by : (b : Bool) → rows_size R (filter keeps rows) ≤ greatest_number → rows_size R (cond b (x ∷ filter keeps rows) (filter keeps rows)) ≤ greatest_number
+      by true more = omega arith
+      by false more = more
 
-  abbrev StartSmall : ℕ → Start V → Type 0
-  StartSmall bound (Constant x) = IsSmall bound x
-  StartSmall bound Minus = Unit {0}
-  StartSmall bound (Variable i) = Unit {0}
+  lines_wide : (vars : ℕ) (ends : Piece → Bool) (before : List (List V)) (us : List Piece) (rows : List (List V)) → AreItems (Item (next_generator R ends) (λ rows. IsGenerator kind R N vars)) before us rows → AreWide (vars + 1) rows
+  lines_wide vars ends before us [] are = All-nil (λ row. length row ≡ vars + 1)
+  lines_wide vars ends before us (row ∷ rows) (vs, ws, whole, line, more) =
+      let g = line.second in
+      let entries = length-row kind R N greatest_number vars g.front g.value g.first in
+      All-cons (λ row. length row ≡ vars + 1) row rows (ap length g.second.second.is ∙ (let all : length (line.value ∷ g.value) ≡ vars + 1 = omega arith in all)) (lines_wide vars ends (before ++ row ∷ []) ws rows more)
 
-  abbrev TermSmall : ℕ → Term V → Type 0
-  TermSmall bound t = IsSmall bound t.coefficient
+  length-filter-le : (keeps : List V → Bool) (rows : List (List V)) → length (filter keeps rows) ≤ length rows
+  length-filter-le keeps [] = omega arith
+  length-filter-le keeps (x ∷ rows) = by (keeps x) (length-filter-le keeps rows)
+    where
+      by : (b : Bool) → length (filter keeps rows) ≤ length rows → length (cond b (x ∷ filter keeps rows) (filter keeps rows)) ≤ length (x ∷ rows)
+      by true more = omega arith
+      by false more = omega arith
 
-  zero_small : (bound : ℕ) → IsSmall bound R.zero
-  zero_small bound = subst (λ s. s ≤ bound) (sym laws.size_zero) (omega arith)
+  -- a list of generators that is read
+  pub generators_held : (vars : ℕ) (ends : Piece → Bool) (us : List Piece) (rows : List (List V)) → AreGenerators kind R N vars ends us rows → AreFileRows R (vars + 1) rows
+  generators_held vars ends us rows are =
+      let lines = are.first in
+      let keeps : List V → Bool = λ row. list_any (is_finite N) row in
+      let kept_are : AreFileRows R (vars + 1) (filter keeps are.value) = record {
+        few = omega (arith, lines.count, length-filter-le keeps are.value);
+        wide = All-filter keeps (λ row. length row ≡ vars + 1) are.value (lines_wide vars ends [] lines.items are.value lines.are);
+        small = rows_size-filter keeps are.value (generator_lines_small vars ends [] lines.items are.value lines.are);
+      } in
+      subst (AreFileRows R (vars + 1)) (sym are.second.is) kept_are
 
-  one_small : (bound : ℕ) → IsSmall bound R.one
-  one_small bound = subst (λ s. s ≤ bound) (sym laws.size_one) (omega arith)
+  -- ---- inequalities
 
-  plus_small : (bound : ℕ) (p : Piece) (x : V) → passed (λ n. N.of (pos n)) (number bound p) ≡ Ok x → IsSmall bound x
-  plus_small bound p x e =
-      let found = passed_number (λ n. N.of (pos n)) bound p (number bound p) x (λ n. number_bound bound n p) e in
-      small_number bound found.0 (pos found.0) x refl found.1 found.2
-
-  shift_small : (bound : ℕ) (up : Bool) (p : Piece) (x : V) → shift N bound up p ≡ Ok x → IsSmall bound x
-  shift_small bound true p x e = plus_small bound p x e
-  shift_small bound false p x e = minus_small bound p x e
-
-  -- a variable gives no number
-  known_small : (bound : ℕ) (place : Option ℕ) (start : Start V) → known place ≡ Ok start → StartSmall bound start
-  known_small bound (Some place) start e = let same : Variable (place + 1) ≡ start = cc in subst (StartSmall bound) same tt
-  known_small bound None start e = cc
-
-  named_small : (bound : ℕ) (named : Bool) (place : Option ℕ) (start : Start V) → (let r : Result (Start V) FaultKind = if named then known place else Err Syntax in r) ≡ Ok start → StartSmall bound start
-  named_small bound true place start e = known_small bound place start e
-  named_small bound false place start e = cc
-
-  variable_small : (bound : ℕ) (names : List (List ℕ)) (p : Piece) (start : Start V) → variable names p ≡ Ok start → StartSmall bound start
-  unfolding variable
-  variable_small bound names p start e = named_small bound (is_name (text_of p)) (place_of (text_of p) names) start e
-
-  digits_start : (bound : ℕ) (digits : Bool) (p : Piece) (other : Result (Start V) FaultKind) (start : Start V) → (other ≡ Ok start → StartSmall bound start)
-      → (let r : Result (Start V) FaultKind = if digits then passed (λ n. Constant (N.of (pos n))) (number bound p) else other in r) ≡ Ok start → StartSmall bound start
-  digits_start bound true p other start h e =
-      let found = passed_number (λ n. Constant (N.of (pos n))) bound p (number bound p) start (λ n. number_bound bound n p) e in
-      subst (StartSmall bound) found.2 (small_number bound found.0 (pos found.0) (N.of (pos found.0)) refl found.1 refl)
-  digits_start bound false p other start h e = h e
-
-  minus_start : (bound : ℕ) (minus : Bool) (other : Result (Start V) FaultKind) (start : Start V) → (other ≡ Ok start → StartSmall bound start)
-      → (let r : Result (Start V) FaultKind = if minus then Ok Minus else other in r) ≡ Ok start → StartSmall bound start
-  minus_start bound true other start h e = let same : Minus ≡ start = cc in subst (StartSmall bound) same tt
-  minus_start bound false other start h e = h e
-
-  max_term_small : (bound : ℕ) (names : List (List ℕ)) (p : Piece) (start : Start V) → max_term N bound names p ≡ Ok start → StartSmall bound start
-  unfolding max_term
-  max_term_small bound names p start e =
-      minus_start bound (says (codes "-") p) _ start (λ f. digits_start bound (is_digits p) p _ start (variable_small bound names p start) f) e
-
-  constant_start : (bound : ℕ) (is : Bool) (x : V) (other : Result (Start V) FaultKind) (start : Start V) → IsSmall bound x → (other ≡ Ok start → StartSmall bound start)
-      → (let r : Result (Start V) FaultKind = if is then Ok (Constant x) else other in r) ≡ Ok start → StartSmall bound start
-  constant_start bound true x other start small h e = let same : Constant x ≡ start = cc in subst (StartSmall bound) same small
-  constant_start bound false x other start small h e = h e
-
-  term_start_small : (kind : RingKind) (bound : ℕ) (names : List (List ℕ)) (p : Piece) (start : Start V) → term_start kind R N bound names p ≡ Ok start → StartSmall bound start
-  unfolding term_start
-  term_start_small MaxKind bound names p start e = max_term_small bound names p start e
-  term_start_small MinKind bound names p start e = constant_start bound (says (codes "oo") p) R.zero _ start (zero_small bound) (max_term_small bound names p start) e
-  term_start_small BoolKind bound names p start e =
-      constant_start bound (says (codes "true") p) R.one _ start (one_small bound) (λ f. constant_start bound (says (codes "false") p) R.zero _ start (zero_small bound) (variable_small bound names p start) f) e
-
-  shifted_small : (bound i : ℕ) (us : List Piece) (t : Term V) → Optional shift_sign (term i R.one) (IsShifted N bound i) us t → TermSmall bound t
-  shifted_small bound i us t (LeftOut e is) = subst (TermSmall bound) (sym is) (one_small bound)
-  shifted_small bound i us t (Written token up vs e announced s) = subst (TermSmall bound) (sym s.second.is) (shift_small bound up s.first.token s.value s.first.is)
-
-  numeric_rest_small : (bound : ℕ) (behind : Piece → Result V FaultKind) (start : Start V) (us : List Piece) (t : Term V) → ((p : Piece) (x : V) → behind p ≡ Ok x → IsSmall bound x)
-      → StartSmall bound start → IsNumericRest R N bound behind start us t → TermSmall bound t
-  numeric_rest_small bound behind (Constant x) us t rest small e = subst (TermSmall bound) (sym e.is) small
-  numeric_rest_small bound behind Minus us t rest small e = subst (TermSmall bound) (sym e.second.is) (rest e.first.token e.value e.first.is)
-  numeric_rest_small bound behind (Variable i) us t rest small e = shifted_small bound i us t e
-
-  truth_term_small : (bound : ℕ) (start : Start V) → StartSmall bound start → TermSmall bound (truth_term R start)
-  truth_term_small bound (Constant x) small = small
-  truth_term_small bound Minus small = zero_small bound
-  truth_term_small bound (Variable i) small = one_small bound
-
-  term_rest_small : (kind : RingKind) (bound : ℕ) (start : Start V) (us : List Piece) (t : Term V) → StartSmall bound start → IsTermRest kind R N bound start us t → TermSmall bound t
-  term_rest_small MaxKind bound start us t small e =
-      numeric_rest_small bound (max_behind R N bound) start us t (λ p x b. zero_or bound (says (codes "oo") p) (passed (λ n. N.of (neg_ℤ (pos n))) (number bound p)) x (minus_small bound p x) b) small e
-  term_rest_small MinKind bound start us t small e = numeric_rest_small bound (min_behind N bound) start us t (λ p x b. minus_small bound p x b) small e
-  term_rest_small BoolKind bound start us t small e = subst (TermSmall bound) (sym e.is) (truth_term_small bound start small)
-
-  separated_small : (kind : RingKind) (bound : ℕ) (names : List (List ℕ)) (t : Term V) (us : List Piece) (ts : List (Term V)) → AreSeparated (IsTerm kind R N bound names) (Passes between_terms) t us ts → All (TermSmall bound) (t ∷ ts)
-  separated_small kind bound names t us [] (vs, token, whole, line, between) =
-      All-one (TermSmall bound) t (term_rest_small kind bound line.value line.back t (term_start_small kind bound names line.first.token line.value line.first.is) line.second)
-  separated_small kind bound names t us (u ∷ ts) (vs, ws, token, whole, line, between, more) =
-      All-cons (TermSmall bound) t (u ∷ ts) (term_rest_small kind bound line.value line.back t (term_start_small kind bound names line.first.token line.value line.first.is) line.second)
-      (separated_small kind bound names u ws ts more)
-
-  start_passed : (bound : ℕ) (r : Result (Start V) FaultKind) (first : Option (Start V)) → ((start : Start V) → r ≡ Ok start → StartSmall bound start) → passed (λ start. Some start) r ≡ Ok first → (start : Start V) → first ≡ Some start → StartSmall bound start
-  start_passed bound (Ok s) first h e start f = let same : s ≡ start = cc in h start (ap Ok same)
-  start_passed bound (Err what) first h e start f = cc
-
-  sum_or : (bound : ℕ) (sum : Bool) (r : Result (Start V) FaultKind) (first : Option (Start V)) → ((start : Start V) → r ≡ Ok start → StartSmall bound start)
-      → (let all : Result (Option (Start V)) FaultKind = if sum then Ok None else passed (λ start. Some start) r in all) ≡ Ok first → (start : Start V) → first ≡ Some start → StartSmall bound start
-  sum_or bound true r first h e start f = cc
-  sum_or bound false r first h e start f = start_passed bound r first h e start f
-
-  side_rest_small : (kind : RingKind) (bound : ℕ) (names : List (List ℕ)) (first : Option (Start V)) (us : List Piece) (terms : List (Term V)) → ((start : Start V) → first ≡ Some start → StartSmall bound start)
-      → IsSideRest kind R N bound names first us terms → All (TermSmall bound) terms
-  side_rest_small kind bound names (Some start) us terms small e =
-      subst (All (TermSmall bound)) (sym e.second.is) (All-one (TermSmall bound) e.value (term_rest_small kind bound start e.front e.value (small start refl) e.first))
-  side_rest_small kind bound names None us terms small e =
-      subst (All (TermSmall bound)) (sym e.second.is) (separated_small kind bound names e.second.first e.back e.second.others e.second.are)
-
-  -- adding terms keeps rows small
-  entry_small : (bound : ℕ) (row : List V) (i : ℕ) → All (IsSmall bound) row → IsSmall bound (entry R row i)
-  entry_small bound [] i h = zero_small bound
-  entry_small bound (a ∷ row) zero h = All-head (IsSmall bound) a row h
-  entry_small bound (a ∷ row) (suc i) h = entry_small bound row i (All-tail (IsSmall bound) a row h)
-
-  sum_small : (bound : ℕ) (a b : V) → IsSmall bound a → IsSmall bound b → IsSmall bound (R.plus a b)
-  sum_small bound a b p q = let most = laws.size_plus a b in omega arith
-
-  with_terms_small : (bound : ℕ) (row : List V) (terms : List (Term V)) → All (IsSmall bound) row → All (TermSmall bound) terms → All (IsSmall bound) (with_terms R row terms)
-  with_terms_small bound row [] h ts = h
-  with_terms_small bound row (t ∷ terms) h ts =
-      with_terms_small bound (with_term R row t) terms
-      (All-set (IsSmall bound) row t.coordinate _ (sum_small bound _ _ (entry_small bound row t.coordinate h) (All-head (TermSmall bound) t terms ts)) h) (All-tail (TermSmall bound) t terms ts)
-
-  coefficients_small : (bound n : ℕ) (terms : List (Term V)) → All (TermSmall bound) terms → row_size R (coefficients R n terms) ≤ bound
-  coefficients_small bound n terms ts = row_size-le bound _ (with_terms_small bound (bottom R n) terms (All-replicate (IsSmall bound) n R.zero (zero_small bound)) ts)
-
-  turned_small : (bound n : ℕ) (turned : Bool) (p q : List (Term V)) → All (TermSmall bound) p → All (TermSmall bound) q → inequality_size R (inequality R n turned p q) ≤ bound
-  turned_small bound n true p q ps qs = let left = coefficients_small bound n q qs in let right = coefficients_small bound n p ps in omega arith
-  turned_small bound n false p q ps qs = let left = coefficients_small bound n p ps in let right = coefficients_small bound n q qs in omega arith
-
-  first_start_small : (kind : RingKind) (bound : ℕ) (names : List (List ℕ)) (p : Piece) (first : Option (Start V)) → side_start kind R N bound names p ≡ Ok first → (start : Start V) → first ≡ Some start → StartSmall bound start
-  first_start_small kind bound names p first e = sum_or bound (says (sum_word kind) p) (term_start kind R N bound names p) first (term_start_small kind bound names p) e
-
-  inequality_small : (kind : RingKind) (bound : ℕ) (names : List (List ℕ)) (first : Option (Start V)) (us : List Piece) (p : Inequality V) → ((start : Start V) → first ≡ Some start → StartSmall bound start)
-      → IsInequalityRest kind R N bound names first us p → inequality_size R p ≤ bound
-  inequality_small kind bound names first us p small e =
-      let turned = e.second in
-      let right = turned.second in
-      let rest = right.second in
-      let ps = side_rest_small kind bound names first e.front e.value small e.first in
-      let side = right.first in
-      let qs = side_rest_small kind bound names side.value side.back right.value (first_start_small kind bound names side.first.token side.value side.first.is) side.second in
-      subst (λ i. inequality_size R i ≤ bound) (sym rest.second.is) (turned_small bound (length names + 1) turned.value e.value right.value ps qs)
-
-  pub line_small : (kind : RingKind) (names : List (List ℕ)) (us : List Piece) (p : Inequality V) → IsInequality kind R N greatest_number names us p → inequality_size R p ≤ greatest_number
-  line_small kind names us p e = inequality_small kind greatest_number names e.value e.back p (first_start_small kind greatest_number names e.first.token e.value e.first.is) e.second
-
-  inequalities_small : (kind : RingKind) (names : List (List ℕ)) (ends : Piece → Bool) (before : List (Inequality V)) (us : List Piece) (system : List (Inequality V))
-      → AreItems (Item (next_inequality kind R N names ends) (λ before. IsInequalityRest kind R N greatest_number names)) before us system → system_size R system ≤ greatest_number
-  inequalities_small kind names ends before us [] are = omega arith
-  inequalities_small kind names ends before us (p ∷ system) (vs, ws, whole, line, more) =
+  -- a line of a list is an inequality
+  line_is : (names : List (List ℕ)) (ends : Piece → Bool) (before : List (Inequality V)) (us : List Piece) (p : Inequality V) → Item (next_inequality kind R N names ends) (λ before. IsInequalityRest kind R N greatest_number names) before us p → IsInequality kind R N greatest_number names us p
+  line_is names ends before us p line =
       let token = line.first.token in
       let started = begun_at (ends token) (side_start kind R N greatest_number names token) line.value line.first.is in
-      let first = inequality_small kind greatest_number names line.value line.back p (first_start_small kind greatest_number names token line.value started) line.second in
-      let others = inequalities_small kind names ends (before ++ p ∷ []) ws system more in
+      record { front = line.front; back = line.back; value = line.value; whole = line.whole; first = record { token = token; whole = line.first.whole; is = started }; second = line.second }
+
+  inequalities_small : (names : List (List ℕ)) (ends : Piece → Bool) (before : List (Inequality V)) (us : List Piece) (system : List (Inequality V))
+      → AreItems (Item (next_inequality kind R N names ends) (λ before. IsInequalityRest kind R N greatest_number names)) before us system → system_size R system ≤ greatest_number
+  inequalities_small names ends before us [] are = omega arith
+  inequalities_small names ends before us (p ∷ system) (vs, ws, whole, line, more) =
+      let first = inequality_size-read laws kind N reversed greatest_number names vs p known (line_is names ends before vs p line) in
+      let others = inequalities_small names ends (before ++ p ∷ []) ws system more in
       omega arith
 
-  pub system_small : (kind : RingKind) (names : List (List ℕ)) (ends : Piece → Bool) (us : List Piece) (system : List (Inequality V)) → AreInequalities kind R N names ends us system → system_size R system ≤ 2 ^ 49
-  system_small kind names ends us system are = let small = inequalities_small kind names ends [] are.items system are.are in omega arith
+  inequalities_wide : (names : List (List ℕ)) (ends : Piece → Bool) (before : List (Inequality V)) (us : List Piece) (system : List (Inequality V))
+      → AreItems (Item (next_inequality kind R N names ends) (λ before. IsInequalityRest kind R N greatest_number names)) before us system → All (IsIn (length names + 1)) system
+  inequalities_wide names ends before us [] are = All-nil (IsIn (length names + 1))
+  inequalities_wide names ends before us (p ∷ system) (vs, ws, whole, line, more) =
+      All-cons (IsIn (length names + 1)) p system (IsIn-inequality kind R N greatest_number names vs p (line_is names ends before vs p line)) (inequalities_wide names ends (before ++ p ∷ []) ws system more)
 
-  pub place_row_small : (kind : RingKind) (names : List (List ℕ)) (us : List Piece) (p : Place V) → ((us : List Piece) (x : V) → IsElement kind R N greatest_number us x → IsSmall greatest_number x)
-      → IsPlace kind R N names us p → row_size R p.row ≤ 2 ^ 60
-  place_row_small kind names us p element e =
+  -- a list of inequalities that is read
+  pub inequalities_held : (names : List (List ℕ)) (ends : Piece → Bool) (us : List Piece) (system : List (Inequality V)) → AreInequalities kind R N names ends us system → AreFileInequalities R (length names + 1) system
+  inequalities_held names ends us system are = record { few = are.count; wide = inequalities_wide names ends [] are.items system are.are; small = inequalities_small names ends [] are.items system are.are }
+
+  -- ---- a vector with inequalities
+
+  pub at_held : (names : List (List ℕ)) (us : List Piece) (p : At V) → IsAt kind R N names us p → IsFileAt R (length names + 1) p
+  at_held names us p e =
       let row = e.second in
-      let small = row_size-le greatest_number row.value (row_small kind greatest_number (length names + 1) row.front row.value element row.first) in
-      subst (λ q. row_size R q.row ≤ 2 ^ 60) (sym row.second.second.second.is) (let here : row_size R row.value ≤ 2 ^ 60 = omega arith in here)
+      let here : IsFileAt R (length names + 1) (record { inequalities = e.value; row = row.value }) = record {
+        inequalities = inequalities_held names (ends AtWord) e.front e.value e.first;
+        wide = length-row kind R N greatest_number (length names + 1) row.front row.value row.first;
+        small = row_size-read laws kind N reversed greatest_number (length names + 1) row.front row.value known row.first;
+      } in
+      subst (IsFileAt R (length names + 1)) (sym row.second.second.second.is) here
 
-  pub place_system_small : (kind : RingKind) (names : List (List ℕ)) (us : List Piece) (p : Place V) → IsPlace kind R N names us p → system_size R p.inequalities ≤ 2 ^ 49
-  place_system_small kind names us p e = subst (λ q. system_size R q.inequalities ≤ 2 ^ 49) (sym e.second.second.second.second.is) (system_small kind names (ends At) e.front e.value e.first)
+  pub two_held : (vars : ℕ) (us : List Piece) (lists : Two V) → AreTwo kind R N vars us lists → AreFileTwo R (vars + 1) lists
+  two_held vars us lists e =
+      let right = e.second.second in
+      let here : AreFileTwo R (vars + 1) (record { left = e.value; right = right.value }) = record {
+        left = generators_held vars (ends And) e.front e.value e.first;
+        right = generators_held vars (ends Input) right.front right.value right.first;
+      } in
+      subst (AreFileTwo R (vars + 1)) (sym right.second.is) here
 
 -- ---- files
 
-truth_size : (x : List Bool) → row_size truth_ring x ≤ 0
-truth_size [] = omega arith
-truth_size (a ∷ x) = let more = truth_size x in omega arith
+-- a header has no more names than a file may have
+pub header_few : (kind : List ℕ) (us : List Piece) (h : Header) → IsHeader kind us h → length h.names ≤ most_names
+header_few kind us h is =
+    let names = is.second.second.second in
+    subst (λ g. length g.names ≤ most_names) (sym names.second.is) names.first.count
 
-truths_size : (rows : List (List Bool)) → rows_size truth_ring rows ≤ 0
-truths_size [] = omega arith
-truths_size (x ∷ rows) = let row = truth_size x in let more = truths_size rows in omega arith
+-- the vectors of a file of generators
+pub gens_held : (us : List Piece) (file : GeneratorFile) → SpellsGenerators us file → HoldsRows file.names file.rows
+gens_held us file s =
+    subst (λ f. HoldsRows f.names f.rows) (sym s.second.second.is)
+    (record { names_few = header_few (codes "gens") s.front s.value s.first; rows_are = holds_in_kind (AreGeneratorsOf s.value) (λ V kind R N xs. AreFileRows R (length s.value.names + 1) xs) (λ V kind R N reversed laws known us rows g. generators_held laws kind N reversed known (length s.value.names) is_input_end us rows g) s.value.ring s.second.front s.second.value s.second.first })
 
-body_small : (h : Header) (ends : Piece → Bool) (ring : RingKind) (us : List Piece) (rows : AnyRows) → IsGeneratorBody h ends ring us rows → AreSmall rows
-body_small h ends MaxKind us rows b = subst AreSmall (sym b.second.is) (generators_small_enough max_laws max_numeric_laws MaxKind (length h.names) ends b.front b.value (max_element_small max_laws max_numeric_laws greatest_number) b.first)
-body_small h ends MinKind us rows b = subst AreSmall (sym b.second.is) (generators_small_enough min_laws min_numeric_laws MinKind (length h.names) ends b.front b.value (min_element_small min_laws min_numeric_laws greatest_number) b.first)
-body_small h ends BoolKind us rows b = subst AreSmall (sym b.second.is) (let small = truths_size b.value in omega arith)
+-- the inequalities of a file
+pub ineqs_held : (us : List Piece) (file : InequalityFile) → SpellsInequalities us file → HoldsInequalities file.names file.inequalities
+ineqs_held us file s =
+    subst (λ f. HoldsInequalities f.names f.inequalities) (sym s.second.second.is)
+    (record { names_few = header_few (codes "ineqs") s.front s.value s.first; system_is = holds_in_kind (AreInequalitiesOf s.value) (λ V kind R N xs. AreFileInequalities R (length s.value.names + 1) xs) (λ V kind R N reversed laws known us system g. inequalities_held laws kind N reversed known s.value.names is_input_end us system g) s.value.ring s.second.front s.second.value s.second.first })
+
+-- both lists of a pair
+pub pair_held : (us : List Piece) (file : TwoFile) → SpellsTwo us file → HoldsTwo file.names file.lists
+pair_held us file s =
+    subst (λ f. HoldsTwo f.names f.lists) (sym s.second.second.is)
+    (record { names_few = header_few (codes "pair") s.front s.value s.first; lists_are = holds_in_kind (AreTwoOf s.value) (λ V kind R N x. AreFileTwo R (length s.value.names + 1) x) (λ V kind R N reversed laws known us lists g. two_held laws kind N reversed known (length s.value.names) us lists g) s.value.ring s.second.front s.second.value s.second.first })
+
+-- the inequalities and the vector of a file
+pub at_file_held : (us : List Piece) (file : AtText) → SpellsAt us file → HoldsAt file.names file.body
+at_file_held us file s =
+    subst (λ f. HoldsAt f.names f.body) (sym s.second.second.is)
+    (record { names_few = header_few (codes "at") s.front s.value s.first; body_is = holds_in_kind (IsAtOf s.value) (λ V kind R N x. IsFileAt R (length s.value.names + 1) x) (λ V kind R N reversed laws known us p g. at_held laws kind N reversed known s.value.names us p g) s.value.ring s.second.front s.second.value s.second.first })
+
+-- ---- sizes
+
+small_rows : (names : List (List ℕ)) (rows : Over Rows) → Holds (λ V kind R N xs. AreFileRows R (length names + 1) xs) rows → AreSmall rows
+small_rows names rows h = Holds-weaker (λ V kind R N xs. AreFileRows R (length names + 1) xs) (λ V kind R N xs. rows_size R xs ≤ 2 ^ 59) (λ V kind R N xs k. let small = k.small in omega arith) rows h
 
 -- the rows of a file can be reduced
 pub file_small : (us : List Piece) (file : GeneratorFile) → SpellsGenerators us file → AreSmall file.rows
-file_small us file s = subst AreSmall (sym (ap (λ f. f.rows) s.second.second.is)) (body_small s.value is_input_end s.value.ring s.second.front s.second.value s.second.first)
-
-truth_system : (system : List (Inequality Bool)) → system_size truth_ring system ≤ 0
-truth_system [] = omega arith
-truth_system (p ∷ system) = let left = truth_size p.left in let right = truth_size p.right in let more = truth_system system in omega arith
-
-inequality_body_small : (h : Header) (ends : Piece → Bool) (ring : RingKind) (us : List Piece) (system : AnyInequalities) → IsInequalityBody h ends ring us system → IsConvertible system
-inequality_body_small h ends MaxKind us system b = subst IsConvertible (sym b.second.is) (system_small max_laws max_numeric_laws MaxKind h.names ends b.front b.value b.first)
-inequality_body_small h ends MinKind us system b = subst IsConvertible (sym b.second.is) (system_small min_laws min_numeric_laws MinKind h.names ends b.front b.value b.first)
-inequality_body_small h ends BoolKind us system b = subst IsConvertible (sym b.second.is) (let small = truth_system b.value in omega arith)
+file_small us file s = small_rows file.names file.rows (gens_held us file s).rows_are
 
 -- the inequalities of a file can be converted
 pub inequalities_convertible : (us : List Piece) (file : InequalityFile) → SpellsInequalities us file → IsConvertible file.inequalities
-inequalities_convertible us file s = subst IsConvertible (sym (ap (λ f. f.inequalities) s.second.second.is)) (inequality_body_small s.value is_input_end s.value.ring s.second.front s.second.value s.second.first)
-
-place_body_small : (h : Header) (ring : RingKind) (us : List Piece) (place : AnyPlace) → IsPlaceBody h ring us place → IsVisible place
-place_body_small h MaxKind us place b =
-    subst IsVisible (sym b.second.is) (place_row_small max_laws max_numeric_laws MaxKind h.names b.front b.value (max_element_small max_laws max_numeric_laws greatest_number) b.first, place_system_small max_laws max_numeric_laws MaxKind h.names b.front b.value b.first)
-place_body_small h MinKind us place b =
-    subst IsVisible (sym b.second.is) (place_row_small min_laws min_numeric_laws MinKind h.names b.front b.value (min_element_small min_laws min_numeric_laws greatest_number) b.first, place_system_small min_laws min_numeric_laws MinKind h.names b.front b.value b.first)
-place_body_small h BoolKind us place b =
-    subst IsVisible (sym b.second.is) (let row = truth_size b.value.row in omega arith, let system = truth_system b.value.inequalities in omega arith)
+inequalities_convertible us file s = Holds-weaker (λ V kind R N xs. AreFileInequalities R (length file.names + 1) xs) (λ V kind R N xs. system_size R xs ≤ 2 ^ 49) (λ V kind R N xs k. let small = k.small in omega arith) file.inequalities (ineqs_held us file s).system_is
 
 -- the hypergraph at a file's vector can be looked at
-pub place_visible : (us : List Piece) (file : PlaceFile) → SpellsPlace us file → IsVisible file.place
-place_visible us file s = subst IsVisible (sym (ap (λ f. f.place) s.second.second.is)) (place_body_small s.value s.value.ring s.second.front s.second.value s.second.first)
-
--- ---- single lines
-
-module _ {V : Type 0} {R : Semiring V} (laws : SemiringLaws R) where
-  truth_element : (a : V) → (a ≡ R.zero) ⊎ (a ≡ R.one) → R.size a ≤ 0
-  truth_element a (inl e) = subst (λ x. R.size x ≤ 0) (sym e) (subst (λ s. s ≤ 0) (sym laws.size_zero) (omega arith))
-  truth_element a (inr e) = subst (λ x. R.size x ≤ 0) (sym e) (subst (λ s. s ≤ 0) (sym laws.size_one) (omega arith))
-
-  truth_row : (N : Numbering V) → IsTruthOnly R N → (x : List V) → row_size R x ≤ 0
-  truth_row N only [] = omega arith
-  truth_row N only (a ∷ x) = let first = truth_element a (only.two a) in let more = truth_row N only x in omega arith
-
-  -- the numbers of a line are within the limit of a file
-  pub line_size : (kind : RingKind) (N : Numbering V) (reversed : Bool) (names : List (List ℕ)) (us : List Piece) (p : Inequality V) → KindLaws kind R N reversed → IsInequality kind R N greatest_number names us p → inequality_size R p ≤ 2 ^ 40
-  line_size MaxKind N reversed names us p kinds e = line_small laws kinds.0 MaxKind names us p e
-  line_size MinKind N reversed names us p kinds e = line_small laws kinds.0 MinKind names us p e
-  line_size BoolKind N reversed names us p kinds e = let left = truth_row N kinds p.left in let right = truth_row N kinds p.right in omega arith
+pub at_visible : (us : List Piece) (file : AtText) → SpellsAt us file → IsVisible file.body
+at_visible us file s = Holds-weaker (λ V kind R N x. IsFileAt R (length file.names + 1) x) (λ V kind R N x. (row_size R x.row ≤ 2 ^ 60) × (system_size R x.inequalities ≤ 2 ^ 49)) (λ V kind R N x k. (let small = k.small in omega arith, let small = k.inequalities.small in omega arith)) file.body (at_file_held us file s).body_is

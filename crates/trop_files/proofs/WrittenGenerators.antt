@@ -12,12 +12,14 @@ use Rattle.trop_text.specs.declared.token.TokenKind.TheVariants.{Word}
 use Rattle.trop_text.proofs.Written.{tok, IsWritten, written_as}
 use Rattle.trop_text.proofs.WrittenTokens.{Always, StopsWord, word_written, blank_written}
 use Rattle.trop_text.proofs.WrittenLines.{AreLines, lines_none, lines_one, lines_join}
-use Rattle.trop_files.specs.Spelling.{RingKind}
-use Rattle.trop_files.specs.Printed.{lines_of, printed_row, generator_line}
-use Rattle.trop_files.specs.Words.{is_input_end}
-use Rattle.trop_files.specs.Elements.{IsRow}
+use Rattle.trop_spelling.specs.declared.ring_kind.RingKind.{RingKind}
+use Rattle.trop_files.specs.PrintedFiles.{lines_of, generator_line}
+use Rattle.trop_spelling.specs.Printed.{printed_row}
+use Rattle.trop_reading.specs.Words.{is_input_end}
+use Rattle.trop_spelling.specs.Elements.{IsRow}
 use Rattle.trop_files.specs.Generators.{greatest_number, most_generators, generator_word, next_generator, IsGenerator, AreGenerators, is_finite, kept}
-use Rattle.trop_files.proofs.WrittenElements.{named, AreWithin, row_written, written_then, written_last}
+use Rattle.trop_spelling.proofs.WrittenElements.{named, AreWithin, row_written}
+use Rattle.trop_reading.proofs.WrittenTexts.{written_then, written_last}
 use Rattle.trop_files.proofs.WrittenNumbers.{FitsLine, FitFile}
 
 -- ---- a line

@@ -1,4 +1,5 @@
 -- A printed header is read back.
+-- Index: header_of, header_lines.
 use Rattle.std.proofs.Common.{◌≡◌, ◌<◌, ◌≤◌, ◌+◌, ℕ, suc, Bool, true, false, cond, not, List, [], ◌∷◌, ◌++◌, map, length, get_or, codes, Some, None, Result, Ok, refl, sym, ap, ◌∙◌, subst, arith, append_assoc, length-append}
 use Rattle.std.specs.List.{position, position_or_len}
 use Rattle.std.specs.Str.{bytes_eq}
@@ -20,12 +21,14 @@ use Rattle.trop_text.proofs.Signs.{and_first}
 use Rattle.trop_text.proofs.Written.{tok, AreOn, IsOne, IsWritten, written_join}
 use Rattle.trop_text.proofs.WrittenTokens.{StopsWord, word_written, blank_written}
 use Rattle.trop_text.proofs.WrittenLines.{AreLines, lines_one, lines_on, lines_join}
-use Rattle.trop_files.specs.Spelling.{RingKind, MaxKind, MinKind, BoolKind, ring_word}
-use Rattle.trop_files.specs.Printed.{after_spaces, printed_header}
-use Rattle.trop_files.specs.Words.{said, line_end}
-use Rattle.trop_files.specs.Header.{Header, semiring_word, vars_word, new_name, next_name, most_names, IsName, AreNames, IsKindLine, IsSemiringLine, IsHeader}
-use Rattle.trop_files.proofs.NameWords.{false_if}
-use Rattle.trop_files.proofs.WrittenElements.{none_written}
+use Rattle.trop_spelling.specs.declared.ring_kind.RingKind.{RingKind}
+use Rattle.trop_spelling.specs.declared.ring_kind.RingKind.TheVariants.{Max as MaxKind, Min as MinKind, Bool as BoolKind}
+use Rattle.trop_spelling.specs.Spelling.{ring_word}
+use Rattle.trop_files.specs.PrintedFiles.{after_spaces, printed_header}
+use Rattle.trop_reading.specs.Words.{said, line_end}
+use Rattle.trop_files.specs.Header.{Header, semiring_word, vars_word, new_name, next_name, most_names, IsName, AreNamesInLine, IsKindLine, IsSemiringLine, IsHeader}
+use Rattle.trop_reading.proofs.NameWords.{false_if}
+use Rattle.trop_reading.proofs.WrittenTexts.{none_written}
 
 -- ---- words
 
@@ -184,7 +187,7 @@ abbrev pub header_of : RingKind → List (List ℕ) → ℕ → Header
 header_of kind names line = record { ring = kind; names = names; vars_line = line }
 
 abbrev NamesLine : RingKind → List (List ℕ) → ℕ → List Piece → Type 0
-NamesLine kind names line us = Then (One (Passes vars_word)) (λ at. Then AreNames (λ all. Empty (header_of kind all at))) us (header_of kind names line)
+NamesLine kind names line us = Then (One (Passes vars_word)) (λ at. Then AreNamesInLine (λ all. Empty (header_of kind all at))) us (header_of kind names line)
 
 names_line : (kind : RingKind) (names : List (List ℕ)) (line : ℕ) → length names ≤ most_names → (ts : List Tok) → AreOn line ts → IsNamed names (map Token ts) → NamesLine kind names line (map Token ts ++ LineEnd line ∷ [])
 names_line kind names line few ts on h =
@@ -215,7 +218,7 @@ regroup file_kind ring spaced =
     ap (λ z. codes "kind " ++ z) (ap (λ z. file_kind ++ (codes "\nsemiring " ++ z)) (sym (append_assoc ring (codes "\n") third)) ∙ sym (append_assoc file_kind (codes "\n") (((codes "semiring" ++ (codes " " ++ ring)) ++ codes "\n") ++ third)))
 
 abbrev BehindKind : RingKind → List (List ℕ) → List Piece → Type 0
-BehindKind kind names us = Then IsSemiringLine (λ ring. Then (One (Passes vars_word)) (λ at. Then AreNames (λ all. Empty (header_of ring all at)))) us (header_of kind names 3)
+BehindKind kind names us = Then IsSemiringLine (λ ring. Then (One (Passes vars_word)) (λ at. Then AreNamesInLine (λ all. Empty (header_of ring all at)))) us (header_of kind names 3)
 
 pub header_lines : (file_kind : List ℕ) (kind : RingKind) (names : List (List ℕ)) → is_word file_kind ≡ true → names_spec.AreNames names → length names ≤ 63 → (rest : List ℕ)
     → AreLines (printed_header file_kind kind names) rest 1 4 (λ us. IsHeader file_kind us (record { ring = kind; names = names; vars_line = 3 }))

@@ -1,5 +1,5 @@
 -- The numbers of the entries of vectors, as they stand in texts.
-use Rattle.std.proofs.Common.{◌≡◌, ◌<◌, ◌≤◌, ◌+◌, ℕ, zero, suc, Bool, true, List, [], ◌∷◌, map, length, Option, Some, None, ⊎_elim, refl, sym, ap, ◌∙◌, arith}
+use Rattle.std.proofs.Common.{◌≡◌, ◌<◌, ◌≤◌, ◌+◌, ℕ, zero, suc, Bool, true, List, [], ◌∷◌, map, length, Option, Some, None, refl, sym, ap, ◌∙◌, arith}
 use Rattle.std.specs.Prelude.{ℤ, pos, All, is_some}
 use Rattle.std.specs.List.{list_any}
 use Rattle.std.proofs.lemmas.List.{length-map}
@@ -8,11 +8,12 @@ use Rattle.trop_theory.specs.Semiring.{Semiring}
 use Rattle.trop_theory.specs.Numbers.{Numbering, NumberLaws}
 use Rattle.trop_theory.specs.Vectors.{entry, row_size, rows_size, AreWide}
 use Rattle.trop_theory.specs.Normal.{IsNormal}
-use Rattle.trop_scalar.specs.MaxPlus.{magnitude}
-use Rattle.trop_files.specs.Spelling.{RingKind, MaxKind, MinKind, BoolKind, KindLaws, IsTruthOnly}
-use Rattle.trop_files.specs.Printed.{numbers}
+use Rattle.trop_spelling.specs.declared.ring_kind.RingKind.{RingKind}
+use Rattle.trop_spelling.specs.Spelling.{KindLaws}
+use Rattle.trop_spelling.specs.Printed.{numbers}
 use Rattle.trop_files.specs.Generators.{greatest_number}
-use Rattle.trop_files.proofs.WrittenElements.{named, AreWithin}
+use Rattle.trop_spelling.proofs.WrittenElements.{AreWithin}
+use Rattle.trop_spelling.proofs.KindLaws.{one_number, within}
 
 -- a row of so many entries behind the first, each of which is small enough for a file
 abbrev pub FitsLine : ℕ → List (Option ℤ) → Type 0
@@ -36,42 +37,10 @@ FitFile vars [] = Unit {0}
 FitFile vars (row ∷ rows) = FitsFile vars row × FitFile vars rows
 
 module _ {V : Type 0} (kind : RingKind) (reversed : Bool) (R : Semiring V) (N : Numbering V) (laws : NumberLaws R N) (known : KindLaws kind R N reversed) where
-  one_number : (kind : RingKind) → KindLaws kind R N reversed → N.to R.one ≡ Some (pos 0)
-  one_number MaxKind k = k.0.to-one
-  one_number MinKind k = k.0.to-one
-  one_number BoolKind k = k.number
-
-  one_of_some : IsTruthOnly R N → (a : V) (n : ℤ) → N.to a ≡ Some n → a ≡ R.one
-  one_of_some truths a n e = ⊎_elim (λ z. let p : None ≡ Some n = sym ((laws.none a).1 z) ∙ e in absurd cc) (λ o. o) (truths.two a)
-
-  -- an element is named by its number
-  named_by : (kind : RingKind) → KindLaws kind R N reversed → (a : V) (o : Option ℤ) → N.to a ≡ o → named kind R N o ≡ a
-  named_by kind k a None e = sym ((laws.none a).0 e)
-  named_by MaxKind k a (Some n) e = k.0.of-to a n e
-  named_by MinKind k a (Some n) e = k.0.of-to a n e
-  named_by BoolKind k a (Some n) e = sym (one_of_some k a n e)
-
-  pub named_row : (x : List V) → map (named kind R N) (numbers N x) ≡ x
-  named_row [] = refl
-  named_row (a ∷ x) = λ i. named_by kind known a (N.to a) refl i ∷ named_row x i
-
-  small_at : (kind : RingKind) → KindLaws kind R N reversed → (bound : ℕ) (a : V) (o : Option ℤ) → N.to a ≡ o → R.size a ≤ bound → magnitude o ≤ bound
-  small_at kind k bound a None e s = omega arith
-  small_at MaxKind k bound a (Some n) e s = omega (arith, k.0.size a n e)
-  small_at MinKind k bound a (Some n) e s = omega (arith, k.0.size a n e)
-  small_at BoolKind k bound a (Some n) e s =
-      let p : Some n ≡ Some (pos 0) = sym e ∙ ap N.to (one_of_some k a n e) ∙ k.number in
-      let q : magnitude (Some n) ≡ 0 = ap magnitude p in
-      omega arith
-
-  pub within : (bound : ℕ) (x : List V) → row_size R x ≤ bound → AreWithin bound (numbers N x)
-  within bound [] s = tt
-  within bound (a ∷ x) s = (small_at kind known bound a (N.to a) refl (omega arith), within bound x (omega arith))
-
   -- an entry that is the one has a number
   finite_at : (x : List V) (f : ℕ) → f < length x → entry R x f ≡ R.one → list_any is_some (numbers N x) ≡ true
   finite_at [] f h e = absurd (omega arith)
-  finite_at (a ∷ x) zero h e = or_left (is_some (N.to a)) (list_any is_some (numbers N x)) (ap is_some (ap N.to e ∙ one_number kind known))
+  finite_at (a ∷ x) zero h e = or_left (is_some (N.to a)) (list_any is_some (numbers N x)) (ap is_some (ap N.to e ∙ one_number kind reversed R N laws known))
   finite_at (a ∷ x) (suc f) h e = or_right (is_some (N.to a)) (list_any is_some (numbers N x)) (finite_at x f (omega arith) e)
 
   plain_at : (a : V) (x : List V) (o : Option ℤ) → N.to a ≡ o → IsNormal R (a ∷ x) → StartsPlain (o ∷ numbers N x)
@@ -79,13 +48,13 @@ module _ {V : Type 0} (kind : RingKind) (reversed : Bool) (R : Semiring V) (N : 
   plain_at a x (Some n) e h = at h.first h.is_one h.before
     where
       at : (f : ℕ) → entry R (a ∷ x) f ≡ R.one → ((i : ℕ) → i < f → entry R (a ∷ x) i ≡ R.zero) → n ≡ pos 0
-      at zero one before = let p : Some n ≡ Some (pos 0) = sym e ∙ ap N.to one ∙ one_number kind known in cc
+      at zero one before = let p : Some n ≡ Some (pos 0) = sym e ∙ ap N.to one ∙ one_number kind reversed R N laws known in cc
       at (suc f) one before = let p : None ≡ Some n = sym ((laws.none a).1 (before 0 (omega arith))) ∙ e in absurd cc
 
   row_fits : (vars : ℕ) (x : List V) → IsNormal R x → length x ≡ vars + 1 → row_size R x ≤ greatest_number → FitsFile vars (numbers N x)
   row_fits vars [] h wide s = absurd (omega arith)
   row_fits vars (a ∷ x) h wide s = record {
-    fits = (omega (arith, length-map x N.to), within greatest_number x (omega arith));
+    fits = (omega (arith, length-map x N.to), within kind reversed R N laws known greatest_number x (omega arith));
     plain = plain_at a x (N.to a) refl h;
     finite = finite_at (a ∷ x) h.first h.within h.is_one;
   }

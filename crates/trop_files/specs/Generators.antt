@@ -1,22 +1,21 @@
 -- The lines of generators, and the files of them.
-use Rattle.std.specs.Prelude.{ℕ, ℤ, Bool, ◌||◌, List, [], ◌∷◌, length, filter, codes, Option, Result, Ok, Err, if◌then◌else◌}
+use Rattle.std.specs.Prelude.{ℕ, Bool, ◌||◌, List, [], ◌∷◌, length, filter, codes, Option, Result, Ok, Err, if◌then◌else◌}
 use Rattle.std.specs.Option.{is_some}
 use Rattle.std.specs.List.{list_any}
 use Rattle.trop_theory.specs.Semiring.{Semiring}
 use Rattle.trop_theory.specs.Numbers.{Numbering}
-use Rattle.trop_scalar.specs.MaxPlus.{max_ring, max_numbering}
-use Rattle.trop_scalar.specs.MinPlus.{min_ring}
-use Rattle.trop_scalar.specs.Truth.{truth_ring, truth_numbering}
 use Rattle.trop_grammar.specs.Reading.{Reading, ◌>>=◌, gives, token_at}
 use Rattle.trop_grammar.specs.Grammar.{One, Empty, Then}
 use Rattle.trop_grammar.specs.Lists.{Passes, next_or_end, only_end, Item, EndsList, Listed, list_at}
 use Rattle.trop_text.specs.Pieces.{Piece}
 use Rattle.trop_text.specs.declared.fault.FaultKind.{FaultKind}
 use Rattle.trop_text.specs.declared.fault.FaultKind.TheVariants.{Syntax, TooManyLines}
-use Rattle.trop_files.specs.Spelling.{RingKind, MaxKind, MinKind, BoolKind}
-use Rattle.trop_files.specs.Words.{says, line_end, is_input_end}
-use Rattle.trop_files.specs.Elements.{IsRow, row_at}
-use Rattle.trop_files.specs.Header.{Header, IsHeader, header_at}
+use Rattle.trop_spelling.specs.declared.ring_kind.RingKind.{RingKind}
+use Rattle.trop_reading.specs.Words.{says, line_end, is_input_end}
+use Rattle.trop_spelling.specs.Elements.{IsRow, row_at}
+use Rattle.trop_spelling.specs.Over.{Over, Grammars, Readings}
+use Rattle.trop_files.specs.Header.{Header}
+use Rattle.trop_files.specs.Files.{SpellsFile, file_at}
 
 -- the greatest size of a number in a file
 abbrev pub greatest_number : ℕ
@@ -75,38 +74,28 @@ generators_at kind R N vars ends = generator_lines_at kind R N vars ends >>= λ 
 
 -- ---- files of generators
 
--- vectors of one of the three semirings
-pub data AnyRows : Type 0 where
-  MaxRows : List (List (Option ℤ)) → AnyRows
-  MinRows : List (List (Option ℤ)) → AnyRows
-  BoolRows : List (List Bool) → AnyRows
+-- lists of vectors
+abbrev pub Rows : Type 0 → Type 0
+Rows V = List (List V)
 
 -- what a file of generators says; each row has coordinate 0 in front
 pub record GeneratorFile : Type 0 where
   pub names : List (List ℕ)
   pub vars_line : ℕ
-  pub rows : AnyRows
+  pub rows : Over Rows
 
-abbrev pub generator_file : Header → AnyRows → GeneratorFile
+abbrev pub generator_file : Header → Over Rows → GeneratorFile
 generator_file h rows = record { names = h.names; vars_line = h.vars_line; rows = rows }
 
--- the lines behind a header
-abbrev pub IsGeneratorBody : Header → (Piece → Bool) → RingKind → List Piece → AnyRows → Type 0
-IsGeneratorBody h ends MaxKind = Then (AreGenerators MaxKind max_ring max_numbering (length h.names) ends) (λ rows. Empty (MaxRows rows))
-IsGeneratorBody h ends MinKind = Then (AreGenerators MinKind min_ring max_numbering (length h.names) ends) (λ rows. Empty (MinRows rows))
-IsGeneratorBody h ends BoolKind = Then (AreGenerators BoolKind truth_ring truth_numbering (length h.names) ends) (λ rows. Empty (BoolRows rows))
+-- lines of generators in the variables of the header, up to the end of the input
+abbrev pub AreGeneratorsOf : Header → Grammars Rows
+AreGeneratorsOf h V kind R N = AreGenerators kind R N (length h.names) is_input_end
 
--- a header and lines of generators up to the end of the input
 abbrev pub SpellsGenerators : List Piece → GeneratorFile → Type 0
-SpellsGenerators = Then (IsHeader (codes "gens")) (λ h. Then (IsGeneratorBody h is_input_end h.ring) (λ rows. Empty (generator_file h rows)))
+SpellsGenerators = SpellsFile (codes "gens") AreGeneratorsOf generator_file
 
-unfoldable pub generator_body_at : Header → (Piece → Bool) → RingKind → List Piece → Reading Piece FaultKind AnyRows
-generator_body_at h ends MaxKind = generators_at MaxKind max_ring max_numbering (length h.names) ends >>= λ rows. gives (MaxRows rows)
-generator_body_at h ends MinKind = generators_at MinKind min_ring max_numbering (length h.names) ends >>= λ rows. gives (MinRows rows)
-generator_body_at h ends BoolKind = generators_at BoolKind truth_ring truth_numbering (length h.names) ends >>= λ rows. gives (BoolRows rows)
+abbrev pub generators_of_at : Header → Readings Rows
+generators_of_at h V kind R N = generators_at kind R N (length h.names) is_input_end
 
-unfoldable pub generator_rest_at : Header → List Piece → Reading Piece FaultKind GeneratorFile
-generator_rest_at h = generator_body_at h is_input_end h.ring >>= λ rows. gives (generator_file h rows)
-
-unfoldable pub generator_file_at : List Piece → Reading Piece FaultKind GeneratorFile
-generator_file_at = header_at (codes "gens") >>= generator_rest_at
+abbrev pub generator_file_at : List Piece → Reading Piece FaultKind GeneratorFile
+generator_file_at = file_at (codes "gens") generators_of_at generator_file

@@ -9,8 +9,9 @@ use Rattle.trop_text.specs.Names.{place_of}
 use Rattle.trop_text.specs.Pieces.{Piece, Token, LineEnd, InputEnd}
 use Rattle.trop_text.specs.declared.fault.FaultKind.{FaultKind}
 use Rattle.trop_text.specs.declared.fault.FaultKind.TheVariants.{Syntax, DuplicateName, TooManyVars, WrongKind}
-use Rattle.trop_files.specs.Spelling.{RingKind, MaxKind, MinKind, BoolKind}
-use Rattle.trop_files.specs.Words.{says, said, line_end, text_of}
+use Rattle.trop_spelling.specs.declared.ring_kind.RingKind.{RingKind}
+use Rattle.trop_spelling.specs.declared.ring_kind.RingKind.TheVariants.{Max as MaxKind, Min as MinKind, Bool as BoolKind}
+use Rattle.trop_reading.specs.Words.{says, said, line_end, text_of, line_of_piece}
 
 -- what a header says: the semiring, the names of the variables, and the line of the word `vars`
 pub record Header : Type 0 where
@@ -33,15 +34,9 @@ semiring_word p =
     else (if says (codes "min") p then Ok MinKind
     else (if says (codes "bool") p then Ok BoolKind else Err Syntax))
 
--- the line of a token
-abbrev pub line_of : Piece → ℕ
-line_of (Token t) = t.line
-line_of (LineEnd line) = line
-line_of InputEnd = 0
-
 -- the word `vars`, as its line
 abbrev pub vars_word : Piece → Result ℕ FaultKind
-vars_word p = if says (codes "vars") p then Ok (line_of p) else Err Syntax
+vars_word p = if says (codes "vars") p then Ok (line_of_piece p) else Err Syntax
 
 -- ---- the names of the variables
 
@@ -78,8 +73,8 @@ abbrev pub IsName : List (List ℕ) → List ℕ → List Piece → List ℕ →
 IsName names name = Empty name
 
 -- distinct names, 63 at most, and the end of the line
-abbrev pub AreNames : List Piece → List (List ℕ) → Type 0
-AreNames = Listed (Item next_name IsName) (EndsList next_name) most_names
+abbrev pub AreNamesInLine : List Piece → List (List ℕ) → Type 0
+AreNamesInLine = Listed (Item next_name IsName) (EndsList next_name) most_names
 
 -- ---- the header
 
@@ -94,7 +89,7 @@ IsSemiringLine = Then (One (Passes (said (codes "semiring")))) (λ a. Then (One 
 -- both, and the line of the names
 abbrev pub IsHeader : List ℕ → List Piece → Header → Type 0
 IsHeader kind =
-    Then (IsKindLine kind) (λ a. Then IsSemiringLine (λ ring. Then (One (Passes vars_word)) (λ line. Then AreNames (λ names. Empty (record { ring = ring; names = names; vars_line = line })))))
+    Then (IsKindLine kind) (λ a. Then IsSemiringLine (λ ring. Then (One (Passes vars_word)) (λ line. Then AreNamesInLine (λ names. Empty (record { ring = ring; names = names; vars_line = line })))))
 
 -- ---- reading
 

@@ -1,24 +1,24 @@
 -- Lines of inequalities, and the files of them.
-use Rattle.std.specs.Prelude.{ℕ, ℤ, Bool, ◌||◌, List, [], codes, Option, Result, if◌then◌else◌}
+use Rattle.std.specs.Prelude.{ℕ, Bool, ◌||◌, List, [], codes, Option, Result, if◌then◌else◌}
 use Rattle.trop_theory.specs.Semiring.{Semiring}
 use Rattle.trop_theory.specs.Numbers.{Numbering}
 use Rattle.trop_theory.specs.Inequalities.{Inequality}
-use Rattle.trop_scalar.specs.MaxPlus.{max_ring, max_numbering}
-use Rattle.trop_scalar.specs.MinPlus.{min_ring}
-use Rattle.trop_scalar.specs.Truth.{truth_ring, truth_numbering}
-use Rattle.trop_grammar.specs.Reading.{Reading, ◌>>=◌, gives}
-use Rattle.trop_grammar.specs.Grammar.{Empty, Then}
+use Rattle.trop_grammar.specs.Reading.{Reading}
 use Rattle.trop_grammar.specs.Lists.{next_or_end, only_end, Item, EndsList, Listed, list_at}
 use Rattle.trop_text.specs.Name.{is_name}
 use Rattle.trop_text.specs.Pieces.{Piece}
 use Rattle.trop_text.specs.declared.fault.FaultKind.{FaultKind}
 use Rattle.trop_text.specs.declared.fault.FaultKind.TheVariants.{Syntax, TooManyLines}
-use Rattle.trop_files.specs.declared.terms.Start.{Start}
-use Rattle.trop_files.specs.Spelling.{RingKind, MaxKind, MinKind, BoolKind, sum_word}
-use Rattle.trop_files.specs.Words.{text_of, says, is_digits, is_input_end}
-use Rattle.trop_files.specs.Header.{Header, IsHeader, header_at}
+use Rattle.trop_spelling.specs.declared.terms.Start.{Start}
+use Rattle.trop_spelling.specs.declared.ring_kind.RingKind.{RingKind}
+use Rattle.trop_spelling.specs.Spelling.{sum_word}
+use Rattle.trop_reading.specs.Words.{text_of, says, is_digits, is_input_end}
+use Rattle.trop_spelling.specs.Over.{Over, Grammars, Readings}
+use Rattle.trop_files.specs.Header.{Header}
+use Rattle.trop_files.specs.Files.{SpellsFile, file_at}
+use Rattle.trop_spelling.specs.declared.ring_kind.RingKind.TheVariants.{Max as MaxKind, Min as MinKind, Bool as BoolKind}
 use Rattle.trop_files.specs.Generators.{greatest_number}
-use Rattle.trop_files.specs.Inequalities.{side_start, IsInequalityRest, inequality_rest_at}
+use Rattle.trop_spelling.specs.Inequalities.{side_start, IsInequalityRest, inequality_rest_at}
 
 -- the most lines of inequalities in a file
 abbrev pub most_inequalities : ℕ
@@ -55,37 +55,26 @@ inequalities_at kind R N names ends =
 
 -- ---- files of inequalities
 
--- inequalities over one of the three semirings
-pub data AnyInequalities : Type 0 where
-  MaxInequalities : List (Inequality (Option ℤ)) → AnyInequalities
-  MinInequalities : List (Inequality (Option ℤ)) → AnyInequalities
-  BoolInequalities : List (Inequality Bool) → AnyInequalities
+abbrev pub Systems : Type 0 → Type 0
+Systems V = List (Inequality V)
 
 -- what a file of inequalities says
 pub record InequalityFile : Type 0 where
   pub names : List (List ℕ)
-  pub inequalities : AnyInequalities
+  pub inequalities : Over Systems
 
-abbrev pub inequality_file : Header → AnyInequalities → InequalityFile
-inequality_file h inequalities = record { names = h.names; inequalities = inequalities }
+abbrev pub inequality_file : Header → Over Systems → InequalityFile
+inequality_file h xs = record { names = h.names; inequalities = xs }
 
--- the lines behind a header
-abbrev pub IsInequalityBody : Header → (Piece → Bool) → RingKind → List Piece → AnyInequalities → Type 0
-IsInequalityBody h ends MaxKind = Then (AreInequalities MaxKind max_ring max_numbering h.names ends) (λ xs. Empty (MaxInequalities xs))
-IsInequalityBody h ends MinKind = Then (AreInequalities MinKind min_ring max_numbering h.names ends) (λ xs. Empty (MinInequalities xs))
-IsInequalityBody h ends BoolKind = Then (AreInequalities BoolKind truth_ring truth_numbering h.names ends) (λ xs. Empty (BoolInequalities xs))
+-- lines of inequalities in the variables of the header, up to the end of the input
+abbrev pub AreInequalitiesOf : Header → Grammars Systems
+AreInequalitiesOf h V kind R N = AreInequalities kind R N h.names is_input_end
 
--- a header and lines of inequalities up to the end of the input
 abbrev pub SpellsInequalities : List Piece → InequalityFile → Type 0
-SpellsInequalities = Then (IsHeader (codes "ineqs")) (λ h. Then (IsInequalityBody h is_input_end h.ring) (λ xs. Empty (inequality_file h xs)))
+SpellsInequalities = SpellsFile (codes "ineqs") AreInequalitiesOf inequality_file
 
-unfoldable pub inequality_body_at : Header → (Piece → Bool) → RingKind → List Piece → Reading Piece FaultKind AnyInequalities
-inequality_body_at h ends MaxKind = inequalities_at MaxKind max_ring max_numbering h.names ends >>= λ xs. gives (MaxInequalities xs)
-inequality_body_at h ends MinKind = inequalities_at MinKind min_ring max_numbering h.names ends >>= λ xs. gives (MinInequalities xs)
-inequality_body_at h ends BoolKind = inequalities_at BoolKind truth_ring truth_numbering h.names ends >>= λ xs. gives (BoolInequalities xs)
+abbrev pub inequalities_of_at : Header → Readings Systems
+inequalities_of_at h V kind R N = inequalities_at kind R N h.names is_input_end
 
-unfoldable pub inequality_file_rest_at : Header → List Piece → Reading Piece FaultKind InequalityFile
-inequality_file_rest_at h = inequality_body_at h is_input_end h.ring >>= λ xs. gives (inequality_file h xs)
-
-unfoldable pub inequality_file_at : List Piece → Reading Piece FaultKind InequalityFile
-inequality_file_at = header_at (codes "ineqs") >>= inequality_file_rest_at
+abbrev pub inequality_file_at : List Piece → Reading Piece FaultKind InequalityFile
+inequality_file_at = file_at (codes "ineqs") inequalities_of_at inequality_file

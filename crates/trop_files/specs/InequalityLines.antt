@@ -3,25 +3,22 @@ use Rattle.std.specs.Prelude.{◌≡◌, ◌≤◌, ◌^◌, ℕ, zero, suc, Lis
 use Rattle.trop_theory.specs.Semiring.{Semiring}
 use Rattle.trop_theory.specs.Numbers.{Numbering}
 use Rattle.trop_theory.specs.Inequalities.{Inequality}
-use Rattle.trop_grammar.specs.Reading.{Reading, ◌>>=◌, gives, read_then, token_at}
+use Rattle.trop_grammar.specs.Reading.{Reading, ◌>>=◌, gives, token_at}
 use Rattle.trop_text.specs.Pieces.{Piece, InputEnd, pieces_of}
 use Rattle.trop_text.specs.declared.fault.Fault.{Fault}
 use Rattle.trop_text.specs.declared.fault.FaultKind.{FaultKind}
 use Rattle.trop_text.specs.declared.fault.FaultKind.TheVariants.{Syntax}
 use Rattle.trop_text.specs.declared.fault.TextErr.{TextErr}
 use Rattle.trop_text.specs.declared.fault.TextErr.TheVariants as errors
-use Rattle.trop_files.specs.declared.terms.Start.{Start}
-use Rattle.trop_files.specs.Spelling.{RingKind}
-use Rattle.trop_files.specs.Words.{is_input_end, passed}
+use Rattle.trop_spelling.specs.declared.terms.Start.{Start}
+use Rattle.trop_spelling.specs.declared.ring_kind.RingKind.{RingKind}
+use Rattle.trop_reading.specs.Words.{is_input_end, passed}
 use Rattle.trop_files.specs.Header.{Header, IsHeader, header_at}
 use Rattle.trop_files.specs.Generators.{greatest_number}
-use Rattle.trop_files.specs.Inequalities.{IsInequality, inequality_at, inequality_rest_at}
-use Rattle.trop_files.specs.InequalityFiles.{most_inequalities, next_inequality, no_inequality, inequalities_at, AnyInequalities, InequalityFile, inequality_body_at, inequality_file_at, SpellsInequalities}
-use Rattle.trop_files.specs.Outcome.{IsFault}
-
--- The lines behind a header of this semiring are inequalities over it, seen as those of a file.
-pub record AreBodies {V : Type 0} (kind : RingKind) (R : Semiring V) (N : Numbering V) (any : List (Inequality V) → AnyInequalities) : Type 0 where
-  pub reads : (h : Header) (ts : List Piece) → inequality_body_at h is_input_end kind ts ≡ read_then (inequalities_at kind R N h.names is_input_end) (λ xs. gives (any xs)) ts
+use Rattle.trop_spelling.specs.Inequalities.{IsInequality, inequality_at, inequality_rest_at}
+use Rattle.trop_files.specs.InequalityFiles.{most_inequalities, next_inequality, no_inequality, Systems, InequalityFile, inequality_file_at, SpellsInequalities}
+use Rattle.trop_spelling.specs.Over.{Embedding}
+use Rattle.trop_reading.specs.Outcome.{IsFault}
 
 -- What contracts see of a reader by lines: the whole text, the names of its header, the inequalities given so far, the
 -- pieces behind them, and the fault that was answered.
@@ -33,8 +30,8 @@ pub record LineReader (V : Type 0) : Type 0 where
   pub failed : Option Fault
 
 -- the names and the inequalities given so far
-abbrev pub file_given : {V : Type 0} → (List (Inequality V) → AnyInequalities) → LineReader V → InequalityFile
-file_given any reader = record { names = reader.names; inequalities = any reader.given }
+abbrev pub file_given : {V : Type 0} → Embedding V → LineReader V → InequalityFile
+file_given over reader = record { names = reader.names; inequalities = over Systems reader.given }
 
 -- the reader stands behind the header of the bytes
 pub record IsOpened {V : Type 0} (kind : RingKind) (text : List ℕ) (reader : LineReader V) : Type 0 where

@@ -2,24 +2,16 @@
 use Rattle.std.specs.Prelude.{◌≤◌, ◌^◌}
 use Rattle.trop_theory.specs.Vectors.{row_size, rows_size}
 use Rattle.trop_theory.specs.Inequalities.{system_size}
-use Rattle.trop_scalar.specs.MaxPlus.{max_ring}
-use Rattle.trop_scalar.specs.MinPlus.{min_ring}
-use Rattle.trop_scalar.specs.Truth.{truth_ring}
-use Rattle.trop_files.specs.Generators.{AnyRows, MaxRows, MinRows, BoolRows}
-use Rattle.trop_files.specs.AtFiles.{AnyPlace, MaxPlace, MinPlace, BoolPlace}
-use Rattle.trop_files.specs.InequalityFiles.{AnyInequalities, MaxInequalities, MinInequalities, BoolInequalities}
+use Rattle.trop_spelling.specs.Over.{Over, Holds}
+use Rattle.trop_files.specs.Generators.{Rows}
+use Rattle.trop_files.specs.InequalityFiles.{Systems}
+use Rattle.trop_files.specs.AtFiles.{At}
 
-abbrev pub AreSmall : AnyRows → Type 0
-AreSmall (MaxRows rows) = rows_size max_ring rows ≤ 2 ^ 59
-AreSmall (MinRows rows) = rows_size min_ring rows ≤ 2 ^ 59
-AreSmall (BoolRows rows) = rows_size truth_ring rows ≤ 2 ^ 59
+abbrev pub AreSmall : Over Rows → Type 0
+AreSmall = Holds (λ V kind R N rows. rows_size R rows ≤ 2 ^ 59)
 
-abbrev pub IsConvertible : AnyInequalities → Type 0
-IsConvertible (MaxInequalities system) = system_size max_ring system ≤ 2 ^ 49
-IsConvertible (MinInequalities system) = system_size min_ring system ≤ 2 ^ 49
-IsConvertible (BoolInequalities system) = system_size truth_ring system ≤ 2 ^ 49
+abbrev pub IsConvertible : Over Systems → Type 0
+IsConvertible = Holds (λ V kind R N system. system_size R system ≤ 2 ^ 49)
 
-abbrev pub IsVisible : AnyPlace → Type 0
-IsVisible (MaxPlace p) = (row_size max_ring p.row ≤ 2 ^ 60) × (system_size max_ring p.inequalities ≤ 2 ^ 49)
-IsVisible (MinPlace p) = (row_size min_ring p.row ≤ 2 ^ 60) × (system_size min_ring p.inequalities ≤ 2 ^ 49)
-IsVisible (BoolPlace p) = (row_size truth_ring p.row ≤ 2 ^ 60) × (system_size truth_ring p.inequalities ≤ 2 ^ 49)
+abbrev pub IsVisible : Over At → Type 0
+IsVisible = Holds (λ V kind R N p. (row_size R p.row ≤ 2 ^ 60) × (system_size R p.inequalities ≤ 2 ^ 49))

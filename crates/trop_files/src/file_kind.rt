@@ -1,3 +1,4 @@
+//! The kinds of files.
 ghost use Rattle.std.specs.Prelude.{◌≡◌};
 ghost use Rattle.trop_files.specs.FileKinds.{word_of};
 

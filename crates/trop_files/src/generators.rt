@@ -6,24 +6,23 @@ ghost use Rattle.trop_grammar.specs.Reading.{token_at};
 ghost use Rattle.trop_grammar.specs.Lists.{list_step, next_of};
 ghost use Rattle.trop_text.specs.Pieces.{piece_of, pieces_left, pieces_of};
 ghost use Rattle.trop_text.specs.declared.fault.FaultKind.TheVariants.{Syntax};
-ghost use Rattle.trop_files.specs.RingNames.{kind_of};
 ghost use Rattle.trop_files.specs.ListEnds.{ends};
-ghost use Rattle.trop_files.specs.Gives.{Gives};
+ghost use Rattle.trop_reading.specs.Gives.{Gives};
 ghost use Rattle.trop_files.specs.Generators as spec;
-ghost use Rattle.trop_files.specs.GeneratorFiles.{generator_file_of, IsWideGens};
-ghost use Rattle.trop_files.specs.Outcome.{Answers, IsRefusal};
+ghost use Rattle.trop_files.specs.declared.list_end.ListEnd.TheVariants.{Input};
+ghost use Rattle.trop_files.specs.Files.{file_rest_at};
+ghost use Rattle.trop_files.specs.Views.{header_of, generator_file_of, IsWideGens};
+ghost use Rattle.trop_reading.specs.Outcome.{AnswersWith, IsRefusal};
 
-use crate::elements::row;
 use crate::file_kind::FileKind;
 use crate::header::{Header, read_header};
+use crate::limits::GREATEST_NUMBER;
 use crate::list_end::ListEnd;
-use crate::read_err::ReadErr;
-use crate::ring_name::RingName;
-use crate::told::text_err;
-use crate::words::{GREATEST_NUMBER, line_end, says, settle};
 use std::alloc::{AllocError, Global};
+use trop_reading::{ReadErr, line_end, says, settle, text_err};
 use trop_row::{Gens, Row};
 use trop_scalar::{Flag, MaxInt, MinInt, Scalar};
+use trop_spelling::{RingKind, Spelling, row_entries};
 use trop_text::{FaultKind, Lexer, Names, Piece, Pieces, TextErr};
 
 /// The most lines of generators in one list.
@@ -68,18 +67,17 @@ fn generator_word<S: Scalar>(piece: Piece<'_>) -> Result<S, FaultKind>
 
 // The rest of a line that begins with `first`, as the whole vector.
 #[tactic(auto, unfolding(trop_grammar::specs::Reading::read_then, trop_grammar::specs::Reading::gives, crate::specs::Generators::generator_at))]
-fn generator<'a, S: Scalar>(
+fn generator<'a, S: Spelling>(
     alloc: Global,
-    ring: RingName,
     first: S,
     at: Pieces<'a>,
     vars: u32,
 ) -> Result<(Row<S>, Pieces<'a>), ReadErr<'a>>
     requires { vars ≤ 63 }
-    ensures gives { Gives (λ x. (x.0, pieces_left x.1)) result (spec.generator_at (kind_of ring) S.ring S.numbering vars first (pieces_left at.entry)) }
+    ensures gives { Gives (λ x. (x.0, pieces_left x.1)) result (spec.generator_at S.KIND S.ring S.numbering vars first (pieces_left at.entry)) }
     ensures wide { IfOk result (λ x. length x.0 ≡ vars + 1) }
 {
-    let (mut entries, rest) = row(alloc, ring, at, vars, GREATEST_NUMBER)?;
+    let (mut entries, rest) = row_entries(alloc, at, vars, GREATEST_NUMBER)?;
     let rest = line_end(rest)?;
     entries.insert(0, first)?;
     let row = Row::from_entries(alloc, &entries)?;
@@ -88,17 +86,16 @@ fn generator<'a, S: Scalar>(
 
 // One more line, which is put behind those before; false at what ends the list.
 #[tactic(auto, unfolding(trop_grammar::specs::Reading::token_at, trop_grammar::specs::Reading::read_then, trop_grammar::specs::Reading::gives, trop_grammar::specs::Lists::list_step, trop_grammar::specs::Lists::item_or_end))]
-fn next_generator<'a, S: Scalar>(
+fn next_generator<'a, S: Spelling>(
     alloc: Global,
     rows: &mut Vec<Row<S>>,
-    ring: RingName,
     at: Pieces<'a>,
     vars: u32,
     end: ListEnd,
 ) -> Result<(bool, Pieces<'a>), ReadErr<'a>>
     requires vars { vars ≤ 63 }
     requires wide { AreWide (vars + 1) rows.old.items }
-    ensures gives { Gives (λ x. (next_of x.0 rows.new.items, pieces_left x.1)) result (list_step Syntax (spec.next_generator S.ring (ends end)) (λ rows. spec.generator_at (kind_of ring) S.ring S.numbering vars) rows.old.items (pieces_left at.entry)) }
+    ensures gives { Gives (λ x. (next_of x.0 rows.new.items, pieces_left x.1)) result (list_step Syntax (spec.next_generator S.ring (ends end)) (λ rows. spec.generator_at S.KIND S.ring S.numbering vars) rows.old.items (pieces_left at.entry)) }
     ensures wide { IfOk result (λ x. AreWide (vars + 1) rows.new.items) }
     ensures count { IfOk result (λ x. length rows.new.items ≤ length rows.old.items + 1) }
 {
@@ -109,7 +106,7 @@ fn next_generator<'a, S: Scalar>(
         return Ok((false, rest));
     }
     let (first, rest) = settle(generator_word(piece), at, rest)?;
-    let (row, rest) = generator(alloc, ring, first, rest, vars)?;
+    let (row, rest) = generator(alloc, first, rest, vars)?;
     rows.push(row)?;
     Ok((true, rest))
 }
@@ -132,22 +129,21 @@ fn no_generator<'a>(at: Pieces<'a>, end: ListEnd) -> Result<Pieces<'a>, ReadErr<
 }
 
 // Lines of generators, up to what ends them.
-fn generator_lines<'a, S: Scalar>(
+fn generator_lines<'a, S: Spelling>(
     alloc: Global,
-    ring: RingName,
     at: Pieces<'a>,
     vars: u32,
     end: ListEnd,
 ) -> Result<(Vec<Row<S>>, Pieces<'a>), ReadErr<'a>>
     requires { vars ≤ 63 }
-    ensures gives { Gives (λ x. (x.0.items, pieces_left x.1)) result (spec.generator_lines_at (kind_of ring) S.ring S.numbering vars (ends end) (pieces_left at.entry)) }
+    ensures gives { Gives (λ x. (x.0.items, pieces_left x.1)) result (spec.generator_lines_at S.KIND S.ring S.numbering vars (ends end) (pieces_left at.entry)) }
     ensures wide { IfOk result (λ x. AreWide (vars + 1) x.0.items) }
     ensures count { IfOk result (λ x. length x.0.items ≤ 4096) }
 {
     let mut rows = Vec::new(alloc);
     let mut rest = at;
     'lines: for _ in 0..MOST_GENERATORS {
-        let (more, after) = next_generator(alloc, &mut rows, ring, rest, vars, end)?;
+        let (more, after) = next_generator(alloc, &mut rows, rest, vars, end)?;
         rest = after;
         if !more {
             return Ok((rows, rest));
@@ -200,84 +196,85 @@ fn kept_rows<S: Scalar>(
 
 // The vectors of lines of generators; a line whose elements are all the zero adds nothing.
 #[tactic(auto, unfolding(trop_grammar::specs::Reading::read_then, trop_grammar::specs::Reading::gives, crate::specs::Generators::generators_at))]
-pub(crate) fn generators<'a, S: Scalar>(
+pub(crate) fn generators<'a, S: Spelling>(
     alloc: Global,
-    ring: RingName,
     at: Pieces<'a>,
     vars: u32,
     end: ListEnd,
 ) -> Result<(Vec<Row<S>>, Pieces<'a>), ReadErr<'a>>
     requires { vars ≤ 63 }
-    ensures gives { Gives (λ x. (x.0.items, pieces_left x.1)) result (spec.generators_at (kind_of ring) S.ring S.numbering vars (ends end) (pieces_left at.entry)) }
+    ensures gives { Gives (λ x. (x.0.items, pieces_left x.1)) result (spec.generators_at S.KIND S.ring S.numbering vars (ends end) (pieces_left at.entry)) }
     ensures wide { IfOk result (λ x. AreWide (vars + 1) x.0.items) }
     ensures count { IfOk result (λ x. length x.0.items ≤ 4096) }
 {
-    let (lines, rest) = generator_lines(alloc, ring, at, vars, end)?;
+    let (lines, rest) = generator_lines(alloc, at, vars, end)?;
     let rows = kept_rows(alloc, lines, vars)?;
     Ok((rows, rest))
 }
 
 // The lines behind the header.
-#[tactic(auto, unfolding(trop_grammar::specs::Reading::read_then, trop_grammar::specs::Reading::gives, crate::specs::Generators::generator_body_at, crate::specs::Generators::generator_rest_at))]
-fn gen_body<'a>(
+fn gen_lines<'a, S: Spelling>(
     alloc: Global,
-    ring: RingName,
     names: Names,
     vars_line: u32,
     at: Pieces<'a>,
-) -> Result<(AnyGens, Pieces<'a>), ReadErr<'a>>
+) -> Result<(GenFile<S>, Pieces<'a>), ReadErr<'a>>
     requires { length names ≤ 63 }
-    ensures gives { Gives (λ x. (generator_file_of x.0, pieces_left x.1)) result (spec.generator_rest_at (record { ring = kind_of ring; names = names; vars_line = vars_line }) (pieces_left at.entry)) }
-    ensures width { IfOk result (λ x. IsWideGens x.0) }
+    ensures gives { Gives (λ x. (x.0.gens.rows, pieces_left x.1)) result (spec.generators_at S.KIND S.ring S.numbering (length names) (ends Input) (pieces_left at.entry)) }
+    ensures names { IfOk result (λ x. x.0.names ≡ names) }
+    ensures line { IfOk result (λ x. x.0.vars_line ≡ vars_line) }
+    ensures width { IfOk result (λ x. x.0.gens.n ≡ length names + 1) }
 {
     let vars = names.len();
+    let (rows, rest) = generators(alloc, at, vars, ListEnd::Input)?;
+    let gens = Gens::from_rows(vars + 1, rows);
+    let file = GenFile {
+        names,
+        gens,
+        vars_line,
+    };
+    Ok((file, rest))
+}
+
+// The file behind its header, in its semiring.
+fn gen_body<'a>(
+    alloc: Global,
+    header: Header,
+    at: Pieces<'a>,
+) -> Result<(AnyGens, Pieces<'a>), ReadErr<'a>>
+    requires { length header.names ≤ 63 }
+    ensures gives { Gives (λ x. (generator_file_of x.0, pieces_left x.1)) result (file_rest_at spec.generators_of_at spec.generator_file (header_of header) (pieces_left at.entry)) }
+    ensures width { IfOk result (λ x. IsWideGens x.0) }
+{
+    let Header {
+        ring,
+        names,
+        vars_line,
+    } = header;
     match ring {
-        RingName::Max => {
-            let (rows, rest) = generators(alloc, ring, at, vars, ListEnd::Input)?;
-            let gens = Gens::from_rows(vars + 1, rows);
-            let file = GenFile {
-                names,
-                gens,
-                vars_line,
-            };
+        RingKind::Max => {
+            let (file, rest) = gen_lines(alloc, names, vars_line, at)?;
             Ok((AnyGens::Max(file), rest))
         }
-        RingName::Min => {
-            let (rows, rest) = generators(alloc, ring, at, vars, ListEnd::Input)?;
-            let gens = Gens::from_rows(vars + 1, rows);
-            let file = GenFile {
-                names,
-                gens,
-                vars_line,
-            };
+        RingKind::Min => {
+            let (file, rest) = gen_lines(alloc, names, vars_line, at)?;
             Ok((AnyGens::Min(file), rest))
         }
-        RingName::Bool => {
-            let (rows, rest) = generators(alloc, ring, at, vars, ListEnd::Input)?;
-            let gens = Gens::from_rows(vars + 1, rows);
-            let file = GenFile {
-                names,
-                gens,
-                vars_line,
-            };
+        RingKind::Bool => {
+            let (file, rest) = gen_lines(alloc, names, vars_line, at)?;
             Ok((AnyGens::Bool(file), rest))
         }
     }
 }
 
 // A file of generators.
-#[tactic(auto, unfolding(trop_grammar::specs::Reading::read_then, crate::specs::Generators::generator_file_at))]
+#[tactic(auto, unfolding(trop_grammar::specs::Reading::read_then, crate::specs::Files::file_at))]
 fn gen_file<'a>(alloc: Global, at: Pieces<'a>) -> Result<(AnyGens, Pieces<'a>), ReadErr<'a>>
     ensures gives { Gives (λ x. (generator_file_of x.0, pieces_left x.1)) result (spec.generator_file_at (pieces_left at.entry)) }
     ensures width { IfOk result (λ x. IsWideGens x.0) }
 {
     let (header, rest) = read_header(alloc, at, FileKind::Gens)?;
-    let Header {
-        ring,
-        names,
-        vars_line,
-    } = header;
-    gen_body(alloc, ring, names, vars_line, rest)
+    gen_body(alloc, header, rest)
 }
 
 /// Reads a file of generators.
@@ -288,7 +285,7 @@ pub fn read_gens(alloc: Global, bytes: &[u8]) -> Result<AnyGens, TextErr>
     // What is read is spelled so.
     ensures found { IfOk result (λ file. spec.SpellsGenerators (pieces_of bytes.now) (generator_file_of file)) }
     // What is spelled so is read, unless memory runs out.
-    ensures only { (file : spec.GeneratorFile) → spec.SpellsGenerators (pieces_of bytes.now) file → Answers generator_file_of result file }
+    ensures only { (file : spec.GeneratorFile) → spec.SpellsGenerators (pieces_of bytes.now) file → AnswersWith generator_file_of result file }
     // A fault is the first one.
     ensures fault { IfErr result (IsRefusal spec.SpellsGenerators spec.generator_file_at bytes.now) }
     ensures width { IfOk result IsWideGens }

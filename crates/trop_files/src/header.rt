@@ -5,18 +5,16 @@ ghost use Rattle.trop_grammar.specs.Reading.{token_at};
 ghost use Rattle.trop_grammar.specs.Lists.{list_step, next_of};
 ghost use Rattle.trop_text.specs.Pieces.{piece_of, pieces_left};
 ghost use Rattle.trop_text.specs.declared.fault.FaultKind.TheVariants.{Syntax};
-ghost use Rattle.trop_files.specs.RingNames.{kind_of};
 ghost use Rattle.trop_files.specs.FileKinds.{word_of};
-ghost use Rattle.trop_files.specs.Gives.{Gives, Passed};
-ghost use Rattle.trop_files.specs.Words as words;
+ghost use Rattle.trop_reading.specs.Gives.{Gives};
+ghost use Rattle.trop_reading.specs.Words as words;
 ghost use Rattle.trop_files.specs.Header as spec;
-ghost use Rattle.trop_files.specs.Headers.{header_of};
+ghost use Rattle.trop_files.specs.Views.{header_of};
 
 use crate::file_kind::FileKind;
-use crate::read_err::ReadErr;
-use crate::ring_name::RingName;
-use crate::words::{line_end, said, says, settle, text_of};
 use std::alloc::Global;
+use trop_reading::{ReadErr, line_end, said, says, settle, text_of};
+use trop_spelling::RingKind;
 use trop_text::{FaultKind, Names, Piece, Pieces, as_name, is_name};
 
 /// The most variables that a file may have.
@@ -25,7 +23,7 @@ const MOST_NAMES: u32 = 63;
 /// What a header says: the semiring, the names of the variables, and the line of the word `vars`.
 #[derive(Drop)]
 pub(crate) struct Header {
-    pub(crate) ring: RingName,
+    pub(crate) ring: RingKind,
     pub(crate) names: Names,
     pub(crate) vars_line: u32,
 }
@@ -51,15 +49,15 @@ fn kind_word(piece: Piece<'_>, wanted: FileKind) -> Result<(), FaultKind>
 }
 
 // The word of a semiring.
-fn semiring_word(piece: Piece<'_>) -> Result<RingName, FaultKind>
-    ensures { Passed kind_of result (spec.semiring_word (piece_of piece.entry)) }
+fn semiring_word(piece: Piece<'_>) -> Result<RingKind, FaultKind>
+    ensures { result ≡ spec.semiring_word (piece_of piece.entry) }
 {
     if says(piece, b"max") {
-        Ok(RingName::Max)
+        Ok(RingKind::Max)
     } else if says(piece, b"min") {
-        Ok(RingName::Min)
+        Ok(RingKind::Min)
     } else if says(piece, b"bool") {
-        Ok(RingName::Bool)
+        Ok(RingKind::Bool)
     } else {
         Err(FaultKind::Syntax)
     }
@@ -90,8 +88,8 @@ fn kind_line<'a>(at: Pieces<'a>, wanted: FileKind) -> Result<Pieces<'a>, ReadErr
 
 // The second line, with the word of the semiring.
 #[tactic(auto, unfolding(trop_grammar::specs::Reading::token_at, trop_grammar::specs::Reading::read_then, trop_grammar::specs::Reading::gives, crate::specs::Header::semiring_line_at))]
-fn semiring_line<'a>(at: Pieces<'a>) -> Result<(RingName, Pieces<'a>), ReadErr<'a>>
-    ensures { Gives (λ x. (kind_of x.0, pieces_left x.1)) result (spec.semiring_line_at (pieces_left at.entry)) }
+fn semiring_line<'a>(at: Pieces<'a>) -> Result<(RingKind, Pieces<'a>), ReadErr<'a>>
+    ensures { Gives (λ x. (x.0, pieces_left x.1)) result (spec.semiring_line_at (pieces_left at.entry)) }
 {
     let at = said(at, b"semiring")?;
     let Some((piece, rest)) = at.next() else {

@@ -4,32 +4,26 @@ ghost use Rattle.trop_theory.specs.Inequalities.{Inequality, IsIn, inequality_si
 ghost use Rattle.trop_text.specs.Pieces.{Piece, pieces_left, pieces_of};
 ghost use Rattle.trop_text.specs.declared.fault.Fault.{Fault};
 ghost use Rattle.trop_text.specs.declared.fault.TextErr.TheVariants.{Fault as FaultOf};
-ghost use Rattle.trop_files.specs.RingNames.{kind_of};
-ghost use Rattle.trop_files.specs.Gives.{Gives};
+ghost use Rattle.trop_reading.specs.Gives.{Gives};
 ghost use Rattle.trop_files.specs.Generators.{greatest_number};
 ghost use Rattle.trop_files.specs.Header as header;
-ghost use Rattle.trop_files.specs.Inequalities.{IsInequality};
+ghost use Rattle.trop_spelling.specs.Inequalities.{IsInequality};
 ghost use Rattle.trop_files.specs.InequalityFiles.{SpellsInequalities, inequality_file_at, most_inequalities};
 ghost use Rattle.trop_files.specs.InequalityLines as spec;
-ghost use Rattle.trop_files.specs.HeldLines.{IsOpenedAny, IsNoFault};
-ghost use Rattle.trop_files.specs.Headers.{header_of};
-ghost use Rattle.trop_files.specs.Outcome.{Answers, IsRefusal};
+ghost use Rattle.trop_files.specs.Views.{IsOpenedAny, header_of};
+ghost use Rattle.trop_reading.specs.Outcome.{IsNoFault, AnswersWith, IsRefusal};
 
-use crate::Spelling;
 use crate::file_kind::FileKind;
 use crate::header::{Header, read_header};
 use crate::inequalities::{MOST_INEQUALITIES, no_inequality};
-use crate::inequality::inequality_rest;
+use crate::limits::GREATEST_NUMBER;
 use crate::list_end::ListEnd;
-use crate::read_err::ReadErr;
-use crate::ring_name::{RingName, ring_of};
-use crate::terms::side_start;
-use crate::told::text_err;
-use crate::words::{GREATEST_NUMBER, settle};
 use std::alloc::Global;
 use std::marker::{Model, PhantomData};
+use trop_reading::{ReadErr, settle, text_err};
 use trop_row::Ineq;
 use trop_scalar::{Flag, MaxInt, MinInt, Scalar};
+use trop_spelling::{RingKind, Spelling, inequality_rest, side_start};
 use trop_text::{Fault, FaultKind, Lexer, Names, Pieces, TextErr};
 
 /// A file of inequalities behind its header, which gives them one by one.
@@ -49,9 +43,9 @@ impl<'a, S: Spelling> Model for IneqLines<'a, S> {
 
     ghost Value = { LineReader S };
 
-    ghost view = { λ l. record { bytes = l.bytes.now; names = l.names; given = first_of S.kind S.ring S.numbering l.count l.bytes.now; left = pieces_left l.at; failed = l.failed } };
+    ghost view = { λ l. record { bytes = l.bytes.now; names = l.names; given = first_of S.KIND S.ring S.numbering l.count l.bytes.now; left = pieces_left l.at; failed = l.failed } };
 
-    ghost invariant = { λ l. IsSound S.kind S.ring S.numbering l.bytes.now l.names l.count (pieces_left l.at) l.failed };
+    ghost invariant = { λ l. IsSound S.KIND S.ring S.numbering l.bytes.now l.names l.count (pieces_left l.at) l.failed };
 }
 
 /// A file of inequalities over any of the semirings, line by line.
@@ -79,13 +73,13 @@ impl<'a, S: Spelling> IneqLines<'a, S> {
     /// After a fault each further call answers the same one. After `NoMemory` the reader is as before.
     pub fn next(&mut self, alloc: Global) -> Result<Option<Ineq<S>>, TextErr>
         // What is given is the inequality of the next line.
-        ensures given { IfOk result (spec.GivesNext S.kind S.ring S.numbering self.old self.new) }
+        ensures given { IfOk result (spec.GivesNext S.KIND S.ring S.numbering self.old self.new) }
         // Where no line is left, the text spells what was given.
-        ensures found { IfOk result (λ o. IfNone o (SpellsInequalities (pieces_of self.old.bytes) (spec.file_given S.inequalities self.old))) }
+        ensures found { IfOk result (λ o. IfNone o (SpellsInequalities (pieces_of self.old.bytes) (spec.file_given S.three.over self.old))) }
 
         // The inequality of the next line is given, unless memory runs out; and none where no line is left.
-        ensures only { self.old.failed ≡ None → length self.old.given < most_inequalities → (line rest : List Piece) (x : Inequality S) → self.old.left ≡ line ++ rest → IsInequality S.kind S.ring S.numbering greatest_number self.old.names line x → Answers (λ o. o) result (Some x) }
-        ensures end { self.old.failed ≡ None → spec.IsAtEnd self.old → Answers (λ o. o) result None }
+        ensures only { self.old.failed ≡ None → length self.old.given < most_inequalities → (line rest : List Piece) (x : Inequality S) → self.old.left ≡ line ++ rest → IsInequality S.KIND S.ring S.numbering greatest_number self.old.names line x → AnswersWith (λ o. o) result (Some x) }
+        ensures end { self.old.failed ≡ None → spec.IsAtEnd self.old → AnswersWith (λ o. o) result None }
 
         // A fault is the first one of the text, and stays.
         ensures fault { IfErr result (IsRefusal SpellsInequalities inequality_file_at self.old.bytes) }
@@ -99,7 +93,7 @@ impl<'a, S: Spelling> IneqLines<'a, S> {
         if let Some(fault) = self.failed {
             return Err(TextErr::Fault(fault));
         }
-        match next_line(alloc, ring_of::<S>(), &self.names, self.count, self.at) {
+        match next_line(alloc, &self.names, self.count, self.at) {
             Ok((ineq, rest)) => {
                 if ineq.is_some() {
                     self.at = rest;
@@ -120,19 +114,18 @@ impl<'a, S: Spelling> IneqLines<'a, S> {
 
 // The inequality of the next line behind `count` ones, or none at the end of the input.
 #[tactic(auto, unfolding(trop_grammar::specs::Reading::token_at, trop_grammar::specs::Reading::read_then, trop_grammar::specs::Reading::gives, crate::specs::InequalityLines::line_at, crate::specs::InequalityLines::line_rest_at))]
-fn next_line<'a, S: Scalar>(
+fn next_line<'a, S: Spelling>(
     alloc: Global,
-    ring: RingName,
     names: &Names,
     count: u32,
     at: Pieces<'a>,
 ) -> Result<(Option<Ineq<S>>, Pieces<'a>), ReadErr<'a>>
     requires { length names.now ≤ 63 }
-    ensures gives { Gives (λ x. (x.0, pieces_left x.1)) result (spec.line_at (kind_of ring) S.ring S.numbering names.now count (pieces_left at.entry)) }
+    ensures gives { Gives (λ x. (x.0, pieces_left x.1)) result (spec.line_at S.KIND S.ring S.numbering names.now count (pieces_left at.entry)) }
     ensures wide { IfOk result (λ x. IfSome x.0 (IsIn (length names.now + 1))) }
 {
     if count >= MOST_INEQUALITIES {
-        let rest = no_inequality(ring, at, ListEnd::Input)?;
+        let rest = no_inequality::<S>(at, ListEnd::Input)?;
         return Ok((None, rest));
     }
     let Some((piece, rest)) = at.next() else {
@@ -141,8 +134,8 @@ fn next_line<'a, S: Scalar>(
     if ListEnd::Input.is_at(piece) {
         return Ok((None, rest));
     }
-    let (start, rest) = settle(side_start(ring, names, piece, GREATEST_NUMBER), at, rest)?;
-    let (ineq, rest) = inequality_rest(alloc, ring, names, start, rest, GREATEST_NUMBER)?;
+    let (start, rest) = settle(side_start(names, piece, GREATEST_NUMBER), at, rest)?;
+    let (ineq, rest) = inequality_rest(alloc, names, start, rest, GREATEST_NUMBER)?;
     Ok((Some(ineq), rest))
 }
 
@@ -150,8 +143,8 @@ fn next_line<'a, S: Scalar>(
 fn lines<'a, S: Spelling>(bytes: &'a [u8], names: Names, at: Pieces<'a>) -> IneqLines<'a, S>
     requires small { length bytes.now ≤ 2 ^ 31 }
     requires few { length names ≤ 63 }
-    requires behind { spec.IsBehind S.kind S.ring S.numbering bytes.now names 0 (pieces_left at) }
-    ensures { result ≡ record { bytes = bytes.now; names = names; given = spec.first_of S.kind S.ring S.numbering 0 bytes.now; left = pieces_left at.entry; failed = None } }
+    requires behind { spec.IsBehind S.KIND S.ring S.numbering bytes.now names 0 (pieces_left at) }
+    ensures { result ≡ record { bytes = bytes.now; names = names; given = spec.first_of S.KIND S.ring S.numbering 0 bytes.now; left = pieces_left at.entry; failed = None } }
 {
     IneqLines {
         bytes,
@@ -172,9 +165,9 @@ fn any_lines<'a>(bytes: &'a [u8], header: Header, at: Pieces<'a>) -> AnyIneqLine
 {
     let Header { ring, names, .. } = header;
     match ring {
-        RingName::Max => AnyIneqLines::Max(lines(bytes, names, at)),
-        RingName::Min => AnyIneqLines::Min(lines(bytes, names, at)),
-        RingName::Bool => AnyIneqLines::Bool(lines(bytes, names, at)),
+        RingKind::Max => AnyIneqLines::Max(lines(bytes, names, at)),
+        RingKind::Min => AnyIneqLines::Min(lines(bytes, names, at)),
+        RingKind::Bool => AnyIneqLines::Bool(lines(bytes, names, at)),
     }
 }
 

@@ -1,8 +1,9 @@
+//! What ends a list of lines.
 ghost use Rattle.std.specs.Prelude.{◌≡◌};
 ghost use Rattle.trop_text.specs.Pieces.{piece_of};
 ghost use Rattle.trop_files.specs.ListEnds.{ends};
 
-use crate::words::says;
+use trop_reading::says;
 use trop_text::Piece;
 
 /// What ends a list of lines.

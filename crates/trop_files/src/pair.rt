@@ -1,23 +1,21 @@
 //! Files of two lists of generators.
 ghost use Rattle.std.specs.Prelude.{◌≡◌, ◌+◌, ◌≤◌, ◌^◌, IfOk, IfErr, length};
 ghost use Rattle.trop_text.specs.Pieces.{pieces_left, pieces_of};
-ghost use Rattle.trop_files.specs.RingNames.{kind_of};
-ghost use Rattle.trop_files.specs.Gives.{Gives};
+ghost use Rattle.trop_reading.specs.Gives.{Gives};
 ghost use Rattle.trop_files.specs.PairFiles as spec;
-ghost use Rattle.trop_files.specs.HeldPairs.{held_two, two_file_of, IsWidePair};
-ghost use Rattle.trop_files.specs.Outcome.{Answers, IsRefusal};
+ghost use Rattle.trop_files.specs.Files.{file_rest_at};
+ghost use Rattle.trop_files.specs.Views.{header_of, two_of, two_file_of, IsWidePair};
+ghost use Rattle.trop_reading.specs.Outcome.{AnswersWith, IsRefusal};
 
 use crate::file_kind::FileKind;
 use crate::generators::generators;
 use crate::header::{Header, read_header};
 use crate::list_end::ListEnd;
-use crate::read_err::ReadErr;
-use crate::ring_name::RingName;
-use crate::told::text_err;
-use crate::words::line_end;
 use std::alloc::Global;
+use trop_reading::{ReadErr, line_end, text_err};
 use trop_row::Gens;
 use trop_scalar::{Flag, MaxInt, MinInt, Scalar};
+use trop_spelling::{RingKind, Spelling};
 use trop_text::{Lexer, Names, Pieces, TextErr};
 
 /// A file of two lists of generators.
@@ -44,68 +42,65 @@ pub enum AnyPair {
 
 // The lines behind the header.
 #[tactic(auto, unfolding(trop_grammar::specs::Reading::read_then, trop_grammar::specs::Reading::gives, crate::specs::PairFiles::two_at))]
-fn two<'a, S: Scalar>(
+fn two<'a, S: Spelling>(
     alloc: Global,
-    ring: RingName,
     names: Names,
     at: Pieces<'a>,
 ) -> Result<(PairFile<S>, Pieces<'a>), ReadErr<'a>>
     requires { length names ≤ 63 }
-    ensures gives { Gives (λ x. (held_two x.0, pieces_left x.1)) result (spec.two_at (kind_of ring) S.ring S.numbering (length names) (pieces_left at.entry)) }
+    ensures gives { Gives (λ x. (two_of x.0, pieces_left x.1)) result (spec.two_at S.KIND S.ring S.numbering (length names) (pieces_left at.entry)) }
     ensures names { IfOk result (λ x. x.0.names ≡ names) }
     ensures left_width { IfOk result (λ x. x.0.left.n ≡ length names + 1) }
     ensures right_width { IfOk result (λ x. x.0.right.n ≡ length names + 1) }
 {
     let vars = names.len();
-    let (left, rest) = generators(alloc, ring, at, vars, ListEnd::And)?;
+    let (left, rest) = generators(alloc, at, vars, ListEnd::And)?;
     let rest = line_end(rest)?;
-    let (right, rest) = generators(alloc, ring, rest, vars, ListEnd::Input)?;
+    let (right, rest) = generators(alloc, rest, vars, ListEnd::Input)?;
     let left = Gens::from_rows(vars + 1, left);
     let right = Gens::from_rows(vars + 1, right);
     Ok((PairFile { names, left, right }, rest))
 }
 
-// The file behind its header.
+// The file behind its header, in its semiring.
 fn pair_body<'a>(
     alloc: Global,
-    ring: RingName,
-    names: Names,
-    vars_line: u32,
+    header: Header,
     at: Pieces<'a>,
 ) -> Result<(AnyPair, Pieces<'a>), ReadErr<'a>>
-    requires { length names ≤ 63 }
-    ensures gives { Gives (λ x. (two_file_of x.0, pieces_left x.1)) result (spec.two_file_rest_at (record { ring = kind_of ring; names = names; vars_line = vars_line }) (pieces_left at.entry)) }
+    requires { length header.names ≤ 63 }
+    ensures gives { Gives (λ x. (two_file_of x.0, pieces_left x.1)) result (file_rest_at spec.two_of_at spec.two_file (header_of header) (pieces_left at.entry)) }
     ensures width { IfOk result (λ x. IsWidePair x.0) }
 {
+    let Header {
+        ring,
+        names,
+        vars_line: _,
+    } = header;
     match ring {
-        RingName::Max => {
-            let (file, rest) = two(alloc, ring, names, at)?;
+        RingKind::Max => {
+            let (file, rest) = two(alloc, names, at)?;
             Ok((AnyPair::Max(file), rest))
         }
-        RingName::Min => {
-            let (file, rest) = two(alloc, ring, names, at)?;
+        RingKind::Min => {
+            let (file, rest) = two(alloc, names, at)?;
             Ok((AnyPair::Min(file), rest))
         }
-        RingName::Bool => {
-            let (file, rest) = two(alloc, ring, names, at)?;
+        RingKind::Bool => {
+            let (file, rest) = two(alloc, names, at)?;
             Ok((AnyPair::Bool(file), rest))
         }
     }
 }
 
 // A file of two lists of generators.
-#[tactic(auto, unfolding(trop_grammar::specs::Reading::read_then, crate::specs::PairFiles::two_file_at))]
+#[tactic(auto, unfolding(trop_grammar::specs::Reading::read_then, crate::specs::Files::file_at))]
 fn pair_file<'a>(alloc: Global, at: Pieces<'a>) -> Result<(AnyPair, Pieces<'a>), ReadErr<'a>>
     ensures gives { Gives (λ x. (two_file_of x.0, pieces_left x.1)) result (spec.two_file_at (pieces_left at.entry)) }
     ensures width { IfOk result (λ x. IsWidePair x.0) }
 {
     let (header, rest) = read_header(alloc, at, FileKind::Pair)?;
-    let Header {
-        ring,
-        names,
-        vars_line,
-    } = header;
-    pair_body(alloc, ring, names, vars_line, rest)
+    pair_body(alloc, header, rest)
 }
 
 /// Reads a file of two lists of generators.
@@ -116,7 +111,7 @@ pub fn read_pair(alloc: Global, bytes: &[u8]) -> Result<AnyPair, TextErr>
     // What is read is spelled so.
     ensures found { IfOk result (λ file. spec.SpellsTwo (pieces_of bytes.now) (two_file_of file)) }
     // What is spelled so is read, unless memory runs out.
-    ensures only { (file : spec.TwoFile) → spec.SpellsTwo (pieces_of bytes.now) file → Answers two_file_of result file }
+    ensures only { (file : spec.TwoFile) → spec.SpellsTwo (pieces_of bytes.now) file → AnswersWith two_file_of result file }
     // A fault is the first one.
     ensures fault { IfErr result (IsRefusal spec.SpellsTwo spec.two_file_at bytes.now) }
     ensures width { IfOk result IsWidePair }

@@ -1,4 +1,6 @@
 -- The laws by which reading functions and grammars are built together.
+-- Index: same_next-refl, same_next-append, same_next-upto, go_on-ok, go_on-err, Reads-bind, Reads-then, Reads-weaker,
+-- Reads-same, Reads-gives, Reads-token, Reads-option, Reads-repeat, Reads-until.
 use Rattle.std.proofs.Common.{◌≡◌, ℕ, zero, suc, Option, Some, None, List, [], ◌∷◌, ◌++◌, Result, Ok, Err, refl, sym, ap, subst, ◌∙◌, append_assoc, ◌⊎◌, inl, inr}
 use Rattle.trop_grammar.specs.Reading.{Reading, Miss, go_on, read_then, gives, judged, token_at, announced, option_at, repeat_at, until_at, Next, More, Done, go_further}
 use Rattle.trop_grammar.specs.Grammar.{One, Empty, Then, Optional, LeftOut, Written, Repeated, Until, Further}

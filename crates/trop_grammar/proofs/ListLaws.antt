@@ -1,4 +1,5 @@
 -- Lists are read right.
+-- Index: Judges-passes, Reads-judged, AreParts, parts_of, Reads-list.
 use Rattle.std.proofs.Common.{◌≡◌, ◌≤◌, ℕ, zero, suc, Bool, true, false, List, [], ◌∷◌, ◌++◌, length, Option, Some, None, Result, Ok, Err, refl, sym, ap, subst, ◌∙◌, append_assoc, arith}
 use Rattle.std.proofs.lemmas.List.{append-nil}
 use Rattle.trop_grammar.specs.Reading.{Reading, token_at, Next, More, Done}
@@ -33,7 +34,7 @@ only_end_again false (Ok c) what h = absurd cc
 only_end_again false (Err w) what h = absurd cc
 
 module _ {T W A C : Type 0} where
-  -- lists whose end is told by the token alone
+  -- lists whose end is shown by the token alone
   pub parts_of : (ends : T → Bool) (judge : List A → T → Result C W) (past : T → W) (item : List A → C → List T → Reading T W A) (Rest : List A → C → List T → A → Type 0) (end : T) → ends end ≡ true
       → ((xs : List A) (c : C) → Reads Anything (item xs c) (Rest xs c)) → AreParts (λ xs t. next_or_end (ends t) (judge xs t)) item (λ xs t. only_end (ends t) (past t)) Rest
   parts_of ends judge past item Rest end e reads = record {

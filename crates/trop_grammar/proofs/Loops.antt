@@ -1,7 +1,7 @@
 -- What a loop of a program keeps that reads a list step by step: reading on from here gives what reading from the
 -- start gives.
 use Rattle.std.proofs.Common.{◌≡◌, ℕ, Bool, true, false, suc, ◌-◌, ◌+◌, ◌<◌, ◌≤◌, List, Option, Result, Ok, Err, ap, ◌∙◌, arith}
-use Rattle.trop_grammar.specs.Lists.{list_step, list_last, list_at, next_of, separated_step, separated_last, separated_at}
+use Rattle.trop_grammar.specs.Lists.{list_step, list_last, list_at, next_of}
 use Rattle.trop_grammar.specs.Reading.{token_at, Reading, Miss, go_on, read_then, gives, repeat_at, until_at, Next, More, Done, go_further}
 
 module _ {T W : Type 0} where
@@ -57,7 +57,7 @@ module _ {T W : Type 0} where
   unfolding list_at
   list-start missing start item last n xs ts = until-start (list_step missing start item) (list_last missing last) n xs ts
 
-  -- a step told by a test: the list goes on where it is true
+  -- a step decided by a test: the list goes on where it is true
   pub list-more : {A C : Type 0} (missing : W) (start : List A → T → Result (Option C) W) (item : List A → C → List T → Reading T W A) (last : List A → T → Result (Unit {0}) W) (n k : ℕ) (xs ys : List A) (ts us : List T) (more : Bool)
       → k < n → more ≡ true → list_step missing start item xs ts ≡ Ok (next_of more ys, us) → list_at missing start item last (n - k) xs ts ≡ list_at missing start item last (n - (k + 1)) ys us
   unfolding list_at
@@ -84,27 +84,3 @@ module _ {T W : Type 0} where
       → n ≤ k → token_at missing (last xs) ts ≡ Err miss → list_at missing start item last (n - k) xs ts ≡ Err miss
   unfolding list_at list_last read_then
   list-unclosed missing start item last n k xs ts miss past e = until-last (list_step missing start item) (list_last missing last) n k xs ts past ∙ ap (λ z. go_on z (λ u. gives xs)) e
-
-  -- ---- lists with separators
-
-  pub separated-more : {A : Type 0} (missing : W) (item : List T → Reading T W A) (between : T → Result Bool W) (close : T → Result (Unit {0}) W) (n k : ℕ) (xs ys : List A) (ts us : List T) (more : Bool)
-      → k < n → more ≡ true → separated_step missing item between xs ts ≡ Ok (next_of more ys, us) → separated_at missing item between close (n - k) xs ts ≡ separated_at missing item between close (n - (k + 1)) ys us
-  unfolding separated_at
-  separated-more missing item between close n k xs ys ts us more below on e =
-      until-more (separated_step missing item between) (separated_last missing item close) n k xs ys ts us below (e ∙ ap (λ b. Ok (next_of b ys, us)) on)
-
-  pub separated-done : {A : Type 0} (missing : W) (item : List T → Reading T W A) (between : T → Result Bool W) (close : T → Result (Unit {0}) W) (n k : ℕ) (xs ys : List A) (ts us : List T) (more : Bool)
-      → k < n → more ≡ false → separated_step missing item between xs ts ≡ Ok (next_of more ys, us) → separated_at missing item between close (n - k) xs ts ≡ Ok (ys, us)
-  unfolding separated_at
-  separated-done missing item between close n k xs ys ts us more below off e =
-      until-done (separated_step missing item between) (separated_last missing item close) n k xs ys ts us below (e ∙ ap (λ b. Ok (next_of b ys, us)) off)
-
-  pub separated-fails : {A : Type 0} (missing : W) (item : List T → Reading T W A) (between : T → Result Bool W) (close : T → Result (Unit {0}) W) (n k : ℕ) (xs : List A) (ts : List T) (miss : Miss T W)
-      → k < n → separated_step missing item between xs ts ≡ Err miss → separated_at missing item between close (n - k) xs ts ≡ Err miss
-  unfolding separated_at
-  separated-fails missing item between close n k xs ts miss below e = until-fails (separated_step missing item between) (separated_last missing item close) n k xs ts miss below e
-
-  pub separated-last : {A : Type 0} (missing : W) (item : List T → Reading T W A) (between : T → Result Bool W) (close : T → Result (Unit {0}) W) (n k : ℕ) (xs : List A) (ts : List T)
-      → n ≤ k → separated_at missing item between close (n - k) xs ts ≡ separated_last missing item close xs ts
-  unfolding separated_at
-  separated-last missing item between close n k xs ts past = until-last (separated_step missing item between) (separated_last missing item close) n k xs ts past

@@ -72,20 +72,23 @@ separated_step missing item between xs = item >>= λ x. token_at missing between
 unfoldable pub separated_last : {T W A : Type 0} → W → (List T → Reading T W A) → (T → Result (Unit {0}) W) → List A → List T → Reading T W (List A)
 separated_last missing item close xs = item >>= λ x. token_at missing close >>= λ u. gives (xs ++ x ∷ [])
 
--- An item and n more at most, each with a token behind it: one that `between` lets pass as true, or, behind the last
--- item, as false. Behind the last item that may be `close` judges the token.
-unfoldable pub separated_at : {T W A : Type 0} → W → (List T → Reading T W A) → (T → Result Bool W) → (T → Result (Unit {0}) W) → ℕ → List A → List T → Reading T W (List A)
-separated_at missing item between close n xs = until_at (separated_step missing item between) (separated_last missing item close) n xs
+-- Behind the items xs: an item and n more at most, each with a token behind it: one that `between` lets pass as true, or,
+-- behind the last item, as false. Behind the last item that may be `close` judges the token.
+unfoldable pub separated_from : {T W A : Type 0} → W → (List T → Reading T W A) → (T → Result Bool W) → (T → Result (Unit {0}) W) → ℕ → List A → List T → Reading T W (List A)
+separated_from missing item between close n xs = until_at (separated_step missing item between) (separated_last missing item close) n xs
+
+-- As many items as there are. Each has a token behind it, so there are no more than tokens.
+unfoldable pub separated_at : {T W A : Type 0} → W → (List T → Reading T W A) → (T → Result Bool W) → (T → Result (Unit {0}) W) → List A → List T → Reading T W (List A)
+separated_at missing item between close xs ts = separated_from missing item between close (length ts) xs ts
 
 -- the item x, and behind it the others, each after a separator, and a token that closes the list
 abbrev pub AreSeparated : {T A : Type 0} → (List T → A → Type 0) → (T → Bool → Type 0) → A → List T → List A → Type 0
 AreSeparated {T} Line Between x us [] = (vs : List T) × (t : T) × (us ≡ vs ++ t ∷ []) × Line vs x × Between t false
 AreSeparated {T} Line Between x us (y ∷ ys) = (vs ws : List T) × (t : T) × (us ≡ vs ++ t ∷ ws) × Line vs x × Between t true × AreSeparated Line Between y ws ys
 
--- an item and n more at most
-pub record Separated {T A : Type 0} (Line : List T → A → Type 0) (Between : T → Bool → Type 0) (n : ℕ) (us : List T) (all : List A) : Type 0 where
+-- one or more items
+pub record Separated {T A : Type 0} (Line : List T → A → Type 0) (Between : T → Bool → Type 0) (us : List T) (all : List A) : Type 0 where
   pub first : A
   pub others : List A
   pub is : all ≡ first ∷ others
   pub are : AreSeparated Line Between first us others
-  pub count : length others ≤ n

@@ -4,7 +4,7 @@ use Rattle.std.proofs.lemmas.List.{take-append-drop, length-take-le}
 use Rattle.std.proofs.lemmas.List.Sums.{sum_by-cons, prefix_len-le-length}
 use Rattle.std.specs.List.{prefix_len}
 use Rattle.trop_text.specs.Bytes.{is_line_feed, is_in_line}
-use Rattle.trop_text.specs.Lines.{line_of, column_of, line_count, line_end, past_lines, unended, BeginsWithFeed, EndsLine}
+use Rattle.trop_text.specs.Lines.{line_of, column_of, line_count, end_column, past_lines, unended, BeginsWithFeed, EndsLine}
 use Rattle.trop_text.proofs.Positions.{line_of-feed, line_of-in, column_of-feed}
 use Rattle.trop_text.proofs.Longest.{all_in_prefix}
 use Rattle.trop_text.proofs.Lexing.{along_line}
@@ -74,7 +74,7 @@ unended-le (Some b) = by (is_line_feed b)
     by false = omega arith
 
 -- a line ends at the column that its end names
-pub line_ends : (bytes : List ℕ) (line : ℕ) → 1 ≤ line → line ≤ line_count bytes → EndsLine bytes line (line_end bytes line)
+pub line_ends : (bytes : List ℕ) (line : ℕ) → 1 ≤ line → line ≤ line_count bytes → EndsLine bytes line (end_column bytes line)
 line_ends bytes line low high =
     let k = line - 1 in
     let few = unended-le (slice_get bytes (length bytes - 1)) in

@@ -1,9 +1,8 @@
 -- Where a line ends.
 use Rattle.std.proofs.Common.{◌≡◌, ◌≢◌, ◌⊎◌, inl, inr, ◌||◌, ap, ℕ, zero, suc, Bool, true, false, List, [], ◌∷◌, refl, sym, ◌∙◌, nat_eq, true≢false, eq-eqb}
-use Rattle.std.proofs.lemmas.Bool.{or_left, or_right}
+use Rattle.std.proofs.lemmas.Bool.{or_left, or_right, ne_eqb}
 use borrow.Author.Tests.{eqb-true}
 use Rattle.trop_text.proofs.Signs.{or_cases}
-use Rattle.std.proofs.lemmas.Bool.{ne_eqb}
 use Rattle.trop_text.specs.Tokens.{Tok, tokens_at, tokens_past}
 use Rattle.trop_text.specs.Lexer.{BeginWithToken}
 use Rattle.trop_text.specs.Pieces.{LineEnd, ends_from, pieces_from, tokens_in, AreByLine}

@@ -1,4 +1,5 @@
 -- The token with which bytes begin is the longest that fits.
+-- Index: all_in_prefix, prefix_is_longest, Fits, all_imply, word_fits, digits_fit, token_fits.
 use Rattle.std.proofs.Common.{◌≡◌, ◌≢◌, ◌≤◌, ◌+◌, ◌-◌, ◌⊎◌, inl, inr, ℕ, suc, Bool, true, false, ◌||◌, if◌then◌else◌, List, [], ◌∷◌, ◌++◌, length, take, drop, refl, sym, ap, ◌∙◌, subst, arith, nat_eq, true≢false}
 use Rattle.std.proofs.lemmas.Bool.{or_left, or_right}
 use Rattle.std.proofs.lemmas.List.{take-append-drop}

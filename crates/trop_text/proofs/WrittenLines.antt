@@ -1,4 +1,5 @@
 -- Whole lines by the pieces that they are read as: the tokens of each line, and its end.
+-- Index: AreLater, HasToken, AreLines, lines_none, lines_on, lines_one, lines_join, lines_as, lines_whole, line_whole.
 use Rattle.std.proofs.Common.{◌≡◌, ◌≢◌, ◌⊎◌, inl, inr, ◌<◌, ◌+◌, ◌||◌, ℕ, zero, suc, Bool, true, false, List, [], ◌∷◌, ◌++◌, map, length, refl, sym, ap, ◌∙◌, arith, nat_eq, eq-eqb, append_assoc, append-nil}
 use Rattle.std.proofs.lemmas.Bool.{or_left, or_right, ne_eqb}
 use Rattle.std.specs.Prelude.{codes}

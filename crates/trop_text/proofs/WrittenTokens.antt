@@ -1,4 +1,5 @@
 -- A word, digits and a sign are each read as one token, before what does not go on with them.
+-- Index: Always, StopsWord, word_written, digits_written, IsShort, short_written, IsLong, long_written, blank_written.
 use Rattle.std.proofs.Common.{◌≡◌, ◌≤◌, ◌<◌, ◌+◌, ◌^◌, ℕ, Bool, true, false, List, [], ◌∷◌, ◌++◌, length, take, drop, codes, refl, ap, ◌∙◌, arith, length-append}
 use Rattle.std.specs.Prelude.{decimal}
 use Rattle.std.specs.List.{list_all, prefix_len}

@@ -18,8 +18,8 @@ abbrev pub tok_of : Token → Tok
 tok_of t = record { kind = t.kind; text = t.text.now; line = t.line; column = t.column }
 
 -- the first of the old tokens is given and the others are left; none is given only at the end
-abbrev pub GivesNext : List Tok → Option Token → List Tok → Type 0
-GivesNext old given new = MatchOption given ((old ≡ []) × (new ≡ [])) (λ t. old ≡ tok_of t ∷ new)
+abbrev pub GivesToken : List Tok → Option Token → List Tok → Type 0
+GivesToken old given new = MatchOption given ((old ≡ []) × (new ≡ [])) (λ t. old ≡ tok_of t ∷ new)
 
 -- the bytes that are still to come, and the line in which they begin
 abbrev pub bytes_left : Lexer → List ℕ

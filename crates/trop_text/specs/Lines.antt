@@ -27,8 +27,8 @@ past_lines (suc k) [] = []
 past_lines (suc k) (b ∷ bs) = if is_line_feed b then past_lines k bs else past_lines (suc k) bs
 
 -- one more than the number of bytes of that line, its line feed not counted
-abbrev pub line_end : List ℕ → ℕ → ℕ
-line_end bytes line = 1 + prefix_len is_in_line (past_lines (line - 1) bytes)
+abbrev pub end_column : List ℕ → ℕ → ℕ
+end_column bytes line = 1 + prefix_len is_in_line (past_lines (line - 1) bytes)
 
 -- a line feed, or the end
 abbrev pub BeginsWithFeed : List ℕ → Type 0

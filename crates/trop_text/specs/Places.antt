@@ -1,6 +1,6 @@
 -- The places of faults.
 use Rattle.std.specs.Prelude.{ℕ, ◌+◌, List, [], ◌∷◌}
-use Rattle.trop_text.specs.Lines.{line_count, line_end}
+use Rattle.trop_text.specs.Lines.{line_count, end_column}
 use Rattle.trop_text.specs.Pieces.{Piece, Token, LineEnd, InputEnd}
 use Rattle.trop_text.specs.declared.fault.Fault.{Fault}
 use Rattle.trop_text.specs.declared.fault.FaultKind.{FaultKind}
@@ -10,7 +10,7 @@ use Rattle.trop_text.specs.Faults.{fault}
 -- end of the input stands at the first column of the line after the last.
 abbrev pub fault_at : List ℕ → FaultKind → Piece → Fault
 fault_at bytes kind (Token t) = fault kind t.line t.column
-fault_at bytes kind (LineEnd line) = fault kind line (line_end bytes line)
+fault_at bytes kind (LineEnd line) = fault kind line (end_column bytes line)
 fault_at bytes kind InputEnd = fault kind (line_count bytes + 1) 1
 
 -- a fault at the first of the pieces that are left

@@ -22,7 +22,7 @@ pub struct Lexer<'a> {
 }
 
 impl<'a> Lexer<'a> {
-    ghost use Rattle.trop_text.specs.Lexer.{left, source, line_at, bytes_left, IsAtToken, GivesNext};
+    ghost use Rattle.trop_text.specs.Lexer.{left, source, line_at, bytes_left, IsAtToken, GivesToken};
     ghost use Rattle.trop_text.specs.Tokens.{tokens_of};
     ghost use Rattle.trop_text.specs.Lexed.{AreTokens};
 
@@ -43,7 +43,7 @@ impl<'a> Lexer<'a> {
 
     /// The next token. `None` where none is left.
     pub fn next(&mut self) -> Option<Token<'a>>
-        ensures tokens { GivesNext (left self.old) result (left self.new) }
+        ensures tokens { GivesToken (left self.old) result (left self.new) }
         ensures source { source self.new ≡ source self.old }
     {
         self.skip();
@@ -96,7 +96,7 @@ impl<'a> Lexer<'a> {
     #[tactic(auto, using(crate::proofs::Skips::tokens_skip), unfolding(crate::specs::Tokens::tokens_past))]
     pub(crate) fn take(&mut self) -> Option<Token<'a>>
         requires { IsAtToken self.old }
-        ensures tokens { GivesNext (left self.old) result (left self.new) }
+        ensures tokens { GivesToken (left self.old) result (left self.new) }
         ensures source { source self.new ≡ source self.old }
         ensures line { IfSome result (λ t. t.line ≡ line_at self.old) }
         ensures end { IsSome result ↔ (bytes_left self.old ≢ []) }
@@ -137,7 +137,7 @@ impl<'a> Lexer<'a> {
     /// One more than the number of bytes of a line of the source, its line feed not counted, so the column behind its
     /// last byte. Lines count from 1.
     pub fn line_end(&self, line: u32) -> u32
-        ensures value { result ≡ lines.line_end (source self.now) line }
+        ensures value { result ≡ lines.end_column (source self.now) line }
         ensures end { 1 ≤ line → line ≤ lines.line_count (source self.now) → lines.EndsLine (source self.now) line result }
     {
         lines::line_end(self.source, line)

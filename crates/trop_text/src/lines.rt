@@ -20,7 +20,7 @@ pub fn line_count(source: &[u8]) -> u32
 /// One more than the number of bytes of a line.
 pub fn line_end(source: &[u8], line: u32) -> u32
     requires { length source.now ≤ 2 ^ 31 }
-    ensures { result ≡ spec.line_end source.now line }
+    ensures { result ≡ spec.end_column source.now line }
 {
     let rest = past_lines(source, line.saturating_sub(1));
     1 + line_len(rest) as u32

@@ -1,7 +1,7 @@
 //! Pieces: tokens with the ends of lines and of the input.
 ghost use Rattle.std.specs.Prelude.{◌≡◌};
 
-use crate::{Fault, FaultKind, Lexer, Token};
+use crate::{Lexer, Token};
 
 /// What a text that is read by lines consists of.
 #[derive(Clone, Copy)]
@@ -25,7 +25,6 @@ pub struct Pieces<'a> {
 impl<'a> Pieces<'a> {
     ghost use Rattle.trop_text.specs.Lexer.{left, source};
     ghost use Rattle.trop_text.specs.Pieces.{pieces_from, pieces_left, tokens_in, AreByLine, tokens_left, pieces_source, GivesPiece, KeepsSource, Resumes};
-    ghost use Rattle.trop_text.specs.Places.{fault_before};
 
     /// The pieces of the tokens that a lexer has left, of which the first ones may belong to a line that was begun
     /// before. Line 0 says that none was begun.
@@ -77,17 +76,5 @@ impl<'a> Pieces<'a> {
         ensures source { source result ≡ pieces_source self.entry }
     {
         self.lexer
-    }
-
-    /// The fault of this kind at the next piece. A token has its own place; the end of a line stands one past the line's
-    /// last byte, and the end of the input at the first column of the line after the last.
-    pub fn fault(self, kind: FaultKind) -> Fault
-        ensures { result ≡ fault_before (pieces_source self.entry) kind (pieces_left self.entry) }
-    {
-        match self.next() {
-            Some((Piece::Token(token), _)) => kind.at(token.line, token.column),
-            Some((Piece::LineEnd(line), _)) => kind.at(line, self.lexer.line_end(line)),
-            Some((Piece::InputEnd, _)) | None => kind.at(self.lexer.lines() + 1, 1),
-        }
     }
 }

@@ -1,22 +1,64 @@
 //! What no clause says: printed texts, and each call once on its way.
 use crate::{
     Fault, FaultKind, Lexer, Names, Pieces, TextErr, Token, TokenKind, as_name, digits_value,
-    is_name, is_reserved,
+    fault_before, is_name, is_reserved,
 };
 use std::alloc::AllocError;
 use std::test::Fail;
 
+/// The text of a fault.
+#[derive(Clone, Copy)]
+struct Shown {
+    fault: Fault,
+    text: &'static str,
+}
+
+const fn fault_case(fault: Fault, text: &'static str) -> Shown {
+    Shown { fault, text }
+}
+
 #[test]
 fn faults_print_their_place(rt: HostRuntime) -> Result<(), Fail> {
-    let syntax = Fault::Syntax { line: 4, column: 5 };
-    let shown = format!(in rt.alloc(); "{syntax}")?;
-    assert_eq!(rt; shown.as_str(), "line 4, column 5: syntax");
-    let range = TextErr::from(Fault::NumberRange { line: 7 });
-    let shown = format!(in rt.alloc(); "{range}")?;
-    assert_eq!(rt; shown.as_str(), "line 7: number out of range");
+    let cases = [
+        fault_case(
+            Fault::Syntax { line: 4, column: 5 },
+            "line 4, column 5: syntax",
+        ),
+        fault_case(
+            Fault::NumberRange { line: 7 },
+            "line 7: number out of range",
+        ),
+        fault_case(Fault::UnknownName { line: 1 }, "line 1: unknown name"),
+        fault_case(Fault::DuplicateName { line: 3 }, "line 3: duplicate name"),
+        fault_case(Fault::TooManyVars { line: 3 }, "line 3: too many variables"),
+        fault_case(
+            Fault::TooManyLines { line: 1028 },
+            "line 1028: too many lines",
+        ),
+        fault_case(Fault::WrongKind { line: 1 }, "line 1: wrong kind"),
+        fault_case(
+            Fault::TooManyStatements { line: 9 },
+            "line 9: too many statements",
+        ),
+        fault_case(Fault::TooManyAtoms { line: 9 }, "line 9: too many atoms"),
+        fault_case(Fault::TooDeep { line: 9 }, "line 9: nested too deep"),
+        fault_case(
+            Fault::AssertMode { line: 9 },
+            "line 9: assert not in this mode",
+        ),
+        fault_case(Fault::ReportFault { line: 9 }, "line 9: report fault"),
+    ];
+    for wanted in &cases {
+        let fault = wanted.fault;
+        let text = format!(in rt.alloc(); "{fault}")?;
+        assert_eq!(rt; text.as_str(), wanted.text);
+        let error = TextErr::from(fault);
+        let text = format!(in rt.alloc(); "{error}")?;
+        assert_eq!(rt; text.as_str(), wanted.text);
+    }
     let memory = TextErr::from(AllocError);
-    let shown = format!(in rt.alloc(); "{memory}")?;
-    assert_eq!(rt; shown.as_str(), "out of memory");
+    let text = format!(in rt.alloc(); "{memory}")?;
+    assert_eq!(rt; text.as_str(), "out of memory");
     Ok(())
 }
 
@@ -115,18 +157,18 @@ fn faults_stand_at_pieces(rt: HostRuntime) -> Result<(), Fail> {
     let (_, pieces) = pieces.next().ok_or("[")?;
     let (_, pieces) = pieces.next().ok_or("1")?;
     assert_eq!(rt;
-        pieces.fault(FaultKind::Syntax),
+        fault_before(&lexer, FaultKind::Syntax, pieces),
         Fault::Syntax { line: 2, column: 9 }
     );
     let (_, pieces) = pieces.next().ok_or("end of line 2")?;
     assert_eq!(rt;
-        pieces.fault(FaultKind::TooManyLines),
+        fault_before(&lexer, FaultKind::TooManyLines, pieces),
         Fault::TooManyLines { line: 4 }
     );
     let (_, pieces) = pieces.next().ok_or("]")?;
     let (_, pieces) = pieces.next().ok_or("end of line 4")?;
     assert_eq!(rt;
-        pieces.fault(FaultKind::Syntax),
+        fault_before(&lexer, FaultKind::Syntax, pieces),
         Fault::Syntax { line: 5, column: 1 }
     );
     let (_, pieces) = pieces.next().ok_or("end of the input")?;

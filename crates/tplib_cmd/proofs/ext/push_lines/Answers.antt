@@ -2,7 +2,7 @@ use Rattle.std.proofs.Common.{◌+◌, ◌++◌, ◌∷◌, [], length, ◌∙�
 use Rattle.trop_dd.specs.Description.{IsRefusedBy}
 use Rattle.trop_dd.proofs.Conversions.{within_none}
 use Rattle.trop_files.specs.InequalityFiles.{SpellsInequalities, inequality_file_at}
-use Rattle.trop_files.specs.Outcome.{IsFault}
+use Rattle.trop_reading.specs.Outcome.{IsFault}
 use Rattle.tplib_cmd.specs.Answers.{IsRowsStop}
 use Rattle.tplib_cmd.proofs.LineByLine.{fault_at, line_given, stop_line, within_line, given_is, names_stay, bytes_stay}
 use Rattle.tplib_cmd.proofs.ext.push_lines.Goals as goal
@@ -24,7 +24,7 @@ returns-in-Err-Fault-clause-refused g c =
 pub lines-preserved : goal.lines-preserved
 lines-preserved g c =
     let inv = c.lines.invariant in
-    let h = line_given g.S.Spelling.kind g.S.Scalar.ring g.S.Scalar.numbering c.lines.lines c.next.new.self c.in-Ok-Some.field-0 c.in-Ok-Some.ineq c.in-Ok-Some.field-0-is c.in-Ok-Some.ensures.given in
+    let h = line_given g.S.Spelling.KIND g.S.Scalar.ring g.S.Scalar.numbering c.lines.lines c.next.new.self c.in-Ok-Some.field-0 c.in-Ok-Some.ineq c.in-Ok-Some.field-0-is c.in-Ok-Some.ensures.given in
     record {
       bytes = bytes_stay h ∙ inv.bytes;
       names = names_stay h ∙ inv.names;
@@ -36,7 +36,7 @@ lines-preserved g c =
 pub stopped-requires : goal.stopped-requires
 stopped-requires g c =
     let inv = c.lines.invariant in
-    let h = line_given g.S.Spelling.kind g.S.Scalar.ring g.S.Scalar.numbering c.lines.lines c.next.new.self c.in-Ok-Some.field-0 c.in-Ok-Some.ineq c.in-Ok-Some.field-0-is c.in-Ok-Some.ensures.given in
+    let h = line_given g.S.Spelling.KIND g.S.Scalar.ring g.S.Scalar.numbering c.lines.lines c.next.new.self c.in-Ok-Some.field-0 c.in-Ok-Some.ineq c.in-Ok-Some.field-0-is c.in-Ok-Some.ensures.given in
     let r = subst (IsRefusedBy g.S.Scalar.ring c.lines.dd.n (c.lines.dd.system ++ c.in-Ok-Some.ineq ∷ [])) c.in-Err-Limit.field-0-is c.in-Err-Limit.ensures.refused in
     subst (IsRowsStop g.S.Scalar.ring (length c.next.new.self.names + 1) c.next.new.self.given) (sym c.in-Err-Limit.count-is)
     (stop_line g.S.Scalar.ring c.args.dd.now.n c.lines.dd.n (length c.next.new.self.names + 1) c.in-Err-Limit.count c.lines.dd.system c.lines.lines.given c.next.new.self.given c.in-Ok-Some.ineq inv.within inv.system (given_is h) inv.width

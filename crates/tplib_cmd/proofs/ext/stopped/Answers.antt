@@ -1,6 +1,6 @@
 use Rattle.std.proofs.Common.{◌+◌, length, ◌∙◌, sym, subst}
-use Rattle.trop_files.specs.InequalityFiles.{SpellsInequalities, inequality_file_at}
-use Rattle.trop_files.specs.Outcome.{IsFault}
+use Rattle.trop_files.specs.InequalityFiles.{SpellsInequalities, inequality_file_at, Systems}
+use Rattle.trop_reading.specs.Outcome.{IsFault}
 use Rattle.tplib_cmd.specs.Answers.{IsRowsStop}
 use Rattle.tplib_cmd.proofs.LineByLine.{found_at, fault_at, line_given, stop_more, given_is, names_stay, bytes_stay}
 use Rattle.tplib_cmd.proofs.ext.stopped.Goals as goal
@@ -10,7 +10,7 @@ returns-in-Ok-None g c =
     let inv = c.rest.invariant in
     record {
       system = c.rest.lines.given;
-      spelled = found_at g.S.Spelling.inequalities c.rest.lines c.args.lines.now.bytes c.args.lines.now.names c.in-Ok-None.field-0 inv.bytes inv.names c.in-Ok-None.field-0-is c.in-Ok-None.ensures.found;
+      spelled = found_at g.S.Spelling.three.over c.rest.lines c.args.lines.now.bytes c.args.lines.now.names c.in-Ok-None.field-0 inv.bytes inv.names c.in-Ok-None.field-0-is c.in-Ok-None.ensures.found;
       stopped = inv.stop;
     }
 
@@ -22,7 +22,7 @@ returns-in-Err-Fault g c =
 pub rest-preserved-in-Ok-Some : goal.rest-preserved-in-Ok-Some
 rest-preserved-in-Ok-Some g c =
     let inv = c.rest.invariant in
-    let h = line_given g.S.Spelling.kind g.S.Scalar.ring g.S.Scalar.numbering c.rest.lines c.next.new.self c.in-Ok-Some.field-0 c.in-Ok-Some.field-0-0 c.in-Ok-Some.field-0-is c.in-Ok-Some.ensures.given in
+    let h = line_given g.S.Spelling.KIND g.S.Scalar.ring g.S.Scalar.numbering c.rest.lines c.next.new.self c.in-Ok-Some.field-0 c.in-Ok-Some.field-0-0 c.in-Ok-Some.field-0-is c.in-Ok-Some.ensures.given in
     record {
       bytes = bytes_stay h ∙ inv.bytes;
       names = names_stay h ∙ inv.names;

@@ -1,4 +1,4 @@
-use Rattle.trop_files.specs.GeneratorFiles.{generator_file_of}
+use Rattle.trop_files.specs.Views.{generator_file_of}
 use Rattle.tplib_cmd.specs.Answers.{Generators}
 use Rattle.trop_files.proofs.ReadSizes.{file_small}
 use Rattle.tplib_cmd.proofs.reduce.reduce_file.Goals as goal

@@ -3,4 +3,4 @@ use Rattle.tplib_laws.proofs.equal_texts.equal_texts_are_equal_cones.Goals as go
 
 pub returns : goal.returns
 returns g c =
-    λ names. reduced_texts g.met.S.Scalar.ring_laws g.met.S.Scalar.number_laws g.S.Spelling.kind g.S.Scalar.REVERSED g.met.S.Spelling.kind_laws names
+    λ names. reduced_texts g.met.S.Scalar.ring_laws g.met.S.Scalar.number_laws g.S.Spelling.KIND g.S.Scalar.REVERSED g.met.S.Spelling.kind_laws names

@@ -1,27 +1,31 @@
+use Rattle.std.proofs.Common.{refl}
 use Rattle.std.proofs.lemmas.Result.{err_from_is_err_and}
-use Rattle.trop_files.proofs.GeneratorBodies.{max_gives, max_fails, min_gives, min_fails, bool_gives, bool_fails}
+use Rattle.trop_spelling.specs.Over.{max_three, min_three, bool_three}
+use Rattle.trop_files.specs.Generators.{generators_of_at, generator_file}
+use Rattle.trop_files.specs.Views.{header_of}
+use Rattle.trop_files.proofs.Bodies.{body_gives, body_fails}
 use Rattle.trop_files.proofs.generators.gen_body.Goals as goal
 
-pub returns-in_err-rows-in-Max-clause-gives : goal.returns-in_err-rows-in-Max-clause-gives
-returns-in_err-rows-in-Max-clause-gives c =
+pub returns-in_err-file-in-Max-clause-gives : goal.returns-in_err-file-in-Max-clause-gives
+returns-in_err-file-in-Max-clause-gives c =
     let p = err_from_is_err_and c.from_residual.result c.from_residual.ensures.1 in
-    rw (p.1, p.2) (max_fails _ _ c.len-vars.result _ c.args.ring _ c.in-Max.is c.len-vars.ensures.count c.in_err-rows-in-Max.ensures.gives)
+    rw (p.1, p.2) (body_fails generators_of_at generator_file max_three.each (header_of c.args.header) _ c.in-Max.is _ c.in_err-file-in-Max.ensures.gives)
 
-pub returns-in_ok-rows-in-Max-clause-gives : goal.returns-in_ok-rows-in-Max-clause-gives
-returns-in_ok-rows-in-Max-clause-gives c = max_gives _ _ c.len-vars.result _ c.args.ring _ _ _ c.in-Max.is c.len-vars.ensures.count c.from_rows-gens.ensures.rows c.in_ok-rows-in-Max.ensures.gives
+pub returns-in_ok-file-in-Max-clause-gives : goal.returns-in_ok-file-in-Max-clause-gives
+returns-in_ok-file-in-Max-clause-gives c = body_gives generators_of_at generator_file max_three.each (header_of c.args.header) _ c.in-Max.is _ _ _ (rw (c.in_ok-file-in-Max.ensures.names, c.in_ok-file-in-Max.ensures.line) refl) c.in_ok-file-in-Max.ensures.gives
 
-pub returns-in_err-rows-in-Min-clause-gives : goal.returns-in_err-rows-in-Min-clause-gives
-returns-in_err-rows-in-Min-clause-gives c =
-    let p = err_from_is_err_and c.from_residual-in_err-rows-in-Min.result c.from_residual-in_err-rows-in-Min.ensures.1 in
-    rw (p.1, p.2) (min_fails _ _ c.len-vars.result _ c.args.ring _ c.in-Min.is c.len-vars.ensures.count c.in_err-rows-in-Min.ensures.gives)
+pub returns-in_err-file-in-Min-clause-gives : goal.returns-in_err-file-in-Min-clause-gives
+returns-in_err-file-in-Min-clause-gives c =
+    let p = err_from_is_err_and c.from_residual-in_err-file-in-Min.result c.from_residual-in_err-file-in-Min.ensures.1 in
+    rw (p.1, p.2) (body_fails generators_of_at generator_file min_three.each (header_of c.args.header) _ c.in-Min.is _ c.in_err-file-in-Min.ensures.gives)
 
-pub returns-in_ok-rows-in-Min-clause-gives : goal.returns-in_ok-rows-in-Min-clause-gives
-returns-in_ok-rows-in-Min-clause-gives c = min_gives _ _ c.len-vars.result _ c.args.ring _ _ _ c.in-Min.is c.len-vars.ensures.count c.from_rows-gens-in-Min.ensures.rows c.in_ok-rows-in-Min.ensures.gives
+pub returns-in_ok-file-in-Min-clause-gives : goal.returns-in_ok-file-in-Min-clause-gives
+returns-in_ok-file-in-Min-clause-gives c = body_gives generators_of_at generator_file min_three.each (header_of c.args.header) _ c.in-Min.is _ _ _ (rw (c.in_ok-file-in-Min.ensures.names, c.in_ok-file-in-Min.ensures.line) refl) c.in_ok-file-in-Min.ensures.gives
 
-pub returns-in_err-rows-in-Bool-clause-gives : goal.returns-in_err-rows-in-Bool-clause-gives
-returns-in_err-rows-in-Bool-clause-gives c =
-    let p = err_from_is_err_and c.from_residual-in_err-rows-in-Bool.result c.from_residual-in_err-rows-in-Bool.ensures.1 in
-    rw (p.1, p.2) (bool_fails _ _ c.len-vars.result _ c.args.ring _ c.in-Bool.is c.len-vars.ensures.count c.in_err-rows-in-Bool.ensures.gives)
+pub returns-in_err-file-in-Bool-clause-gives : goal.returns-in_err-file-in-Bool-clause-gives
+returns-in_err-file-in-Bool-clause-gives c =
+    let p = err_from_is_err_and c.from_residual-in_err-file-in-Bool.result c.from_residual-in_err-file-in-Bool.ensures.1 in
+    rw (p.1, p.2) (body_fails generators_of_at generator_file bool_three.each (header_of c.args.header) _ c.in-Bool.is _ c.in_err-file-in-Bool.ensures.gives)
 
-pub returns-in_ok-rows-in-Bool-clause-gives : goal.returns-in_ok-rows-in-Bool-clause-gives
-returns-in_ok-rows-in-Bool-clause-gives c = bool_gives _ _ c.len-vars.result _ c.args.ring _ _ _ c.in-Bool.is c.len-vars.ensures.count c.from_rows-gens-in-Bool.ensures.rows c.in_ok-rows-in-Bool.ensures.gives
+pub returns-in_ok-file-in-Bool-clause-gives : goal.returns-in_ok-file-in-Bool-clause-gives
+returns-in_ok-file-in-Bool-clause-gives c = body_gives generators_of_at generator_file bool_three.each (header_of c.args.header) _ c.in-Bool.is _ _ _ (rw (c.in_ok-file-in-Bool.ensures.names, c.in_ok-file-in-Bool.ensures.line) refl) c.in_ok-file-in-Bool.ensures.gives

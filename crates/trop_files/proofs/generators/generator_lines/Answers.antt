@@ -2,7 +2,7 @@ use Rattle.std.proofs.Common.{◌∙◌, sym, refl, arith}
 use Rattle.std.proofs.lemmas.Result.{err_from_is_err_and}
 use Rattle.trop_grammar.proofs.Loops.{list-more, list-done, list-closed}
 use Rattle.trop_files.specs.Generators.{generator_lines_at}
-use Rattle.trop_files.proofs.Loops.{list_failed, list_left_open}
+use Rattle.trop_reading.proofs.Loops.{list_failed, list_left_open}
 use Rattle.trop_files.proofs.generators.generator_lines.Goals as goal
 
 pub lines-init : goal.lines-init

@@ -1,6 +1,6 @@
-use Rattle.trop_files.specs.GeneratorFiles.{generator_file_of}
+use Rattle.trop_files.specs.Views.{generator_file_of}
 use Rattle.trop_files.proofs.FileLaws.{generator_file_reads, generator_file_ends}
-use Rattle.trop_files.proofs.Outcomes.{start_is, spelled, answered, refused, not_answered}
+use Rattle.trop_reading.proofs.Outcomes.{start_is, spelled, answered, refused, not_answered}
 use Rattle.trop_files.proofs.generators.read_gens.Goals as goal
 
 pub returns-in-Ok-clause-found : goal.returns-in-Ok-clause-found

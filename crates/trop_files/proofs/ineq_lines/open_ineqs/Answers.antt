@@ -1,4 +1,4 @@
-use Rattle.trop_files.proofs.Outcomes.{start_is}
+use Rattle.trop_reading.proofs.Outcomes.{start_is}
 use Rattle.trop_files.proofs.LineFiles.{unopened, unopened_fault}
 use Rattle.trop_files.proofs.ineq_lines.open_ineqs.Goals as goal
 

@@ -2,7 +2,7 @@ use Rattle.std.proofs.Common.{◌+◌, ◌∙◌, sym, refl, ap, arith}
 use Rattle.std.proofs.lemmas.Result.{err_from_is_err_and}
 use Rattle.trop_grammar.proofs.Loops.{list-more, list-done, list-closed}
 use Rattle.trop_files.specs.InequalityFiles.{inequalities_at}
-use Rattle.trop_files.proofs.Loops.{list_failed, list_left_open}
+use Rattle.trop_reading.proofs.Loops.{list_failed, list_left_open}
 use Rattle.trop_files.proofs.inequalities.inequalities.Goals as goal
 
 pub lines-init : goal.lines-init

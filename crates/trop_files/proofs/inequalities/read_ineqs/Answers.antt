@@ -1,6 +1,6 @@
-use Rattle.trop_files.specs.HeldInequalities.{inequality_file_of}
+use Rattle.trop_files.specs.Views.{inequality_file_of}
 use Rattle.trop_files.proofs.InequalityFileLaws.{inequality_file_reads, inequality_file_ends}
-use Rattle.trop_files.proofs.Outcomes.{start_is, spelled, answered, refused, not_answered}
+use Rattle.trop_reading.proofs.Outcomes.{start_is, spelled, answered, refused, not_answered}
 use Rattle.trop_files.proofs.inequalities.read_ineqs.Goals as goal
 
 pub returns-in-Ok-clause-found : goal.returns-in-Ok-clause-found

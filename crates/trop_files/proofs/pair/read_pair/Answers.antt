@@ -1,6 +1,6 @@
-use Rattle.trop_files.specs.HeldPairs.{two_file_of}
+use Rattle.trop_files.specs.Views.{two_file_of}
 use Rattle.trop_files.proofs.PairFileLaws.{two_file_reads, two_file_ends}
-use Rattle.trop_files.proofs.Outcomes.{start_is, spelled, answered, refused, not_answered}
+use Rattle.trop_reading.proofs.Outcomes.{start_is, spelled, answered, refused, not_answered}
 use Rattle.trop_files.proofs.pair.read_pair.Goals as goal
 
 pub returns-in-Ok-clause-found : goal.returns-in-Ok-clause-found

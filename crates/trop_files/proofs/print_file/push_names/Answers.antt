@@ -1,6 +1,6 @@
 use Rattle.std.proofs.Common.{◌++◌, ap, ◌∙◌}
-use Rattle.trop_files.specs.Printed.{after_spaces}
-use Rattle.trop_files.proofs.Printing.{two_more, drop_found}
+use Rattle.trop_files.specs.PrintedFiles.{after_spaces}
+use Rattle.trop_spelling.proofs.Printing.{two_more, drop_found}
 use Rattle.trop_files.proofs.print_file.push_names.Goals as goal
 
 pub loop-place-preserved : goal.loop-place-preserved

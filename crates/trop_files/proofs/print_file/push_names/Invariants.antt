@@ -1,5 +1,5 @@
 use Rattle.std.proofs.Common.{◌≡◌, ◌++◌, drop}
-use Rattle.trop_files.specs.Printed.{after_spaces}
+use Rattle.trop_files.specs.PrintedFiles.{after_spaces}
 use Rattle.trop_files.proofs.print_file.push_names.Given as goal
 
 abbrev pub invariant-loop-place : goal.invariant-loop-place

@@ -1,9 +1,0 @@
-use Rattle.std.proofs.Common.{◌≡◌, drop, length}
-use Rattle.trop_files.specs.Inequalities.{with_terms, coefficients}
-use Rattle.trop_files.proofs.inequality.coefficients.Given as goal
-
-abbrev pub invariant-terms : goal.invariant-terms
-invariant-terms g l = record {
-  value : with_terms g.S.Scalar.ring l.row (drop l.term-index l.terms) ≡ coefficients g.S.Scalar.ring l.n l.terms;
-  wide : length l.row ≡ l.n;
-}

@@ -1,0 +1,15 @@
+pub mod Printing
+pub mod Coefficients
+pub mod PrintedTerms
+pub mod WrittenTerms
+pub mod WrittenSides
+pub mod WrittenInequalities
+pub mod WrittenElements
+pub mod ElementLaws
+pub mod InequalityLaws
+pub mod PartLaws
+pub mod KindLaws
+pub mod EachKind
+pub mod WrittenParts
+pub mod Lengths
+pub mod ReadSizes
