@@ -5,6 +5,7 @@ use Rattle.std.proofs.lemmas.Bool.{cases_lt}
 use Rattle.std.proofs.lemmas.List.{get_or_default, length-append, get_or_append_left, get_or-append-add}
 use Rattle.std.proofs.lemmas.List.Edits.{get_or-remove_below, get_or-remove_above, length-remove}
 use Rattle.std.proofs.lemmas.List.Elements.{Contains-get_or, All-contains, All-append}
+
 module _ {X : Type 0} where
   -- no element stands twice
   abbrev pub AreDistinct : List X → Type 0
@@ -45,4 +46,3 @@ module _ {X : Type 0} where
     where
       right : (k : ℕ) → length xs ≤ k → get_or (xs ++ ys) k d ≡ get_or ys (k - length xs) d
       right k h = ap (λ i. get_or (xs ++ ys) i d) (let e : k ≡ length xs + (k - length xs) = omega arith in e) ∙ get_or-append-add xs ys (k - length xs) d
-

@@ -120,7 +120,6 @@ module _ {X : Type 0} (Q : X → X → Type 0) where
       (λ t. let r = back_in_zip xs ys h.1 y t in (r.0, Contains-cons z xs r.0 r.1, r.2))
       (Contains-cons_cases w ys y c)
 
-
 -- two removals, in either order
 pub remove-remove : {X : Type 0} (xs : List X) (j k : ℕ) → j ≤ k → remove (remove xs (suc k)) j ≡ remove (remove xs j) k
 remove-remove [] zero zero h = refl
@@ -130,7 +129,6 @@ remove-remove [] (suc j) (suc k) h = refl
 remove-remove (x ∷ xs) zero k h = refl
 remove-remove (x ∷ xs) (suc j) zero h = absurd (omega arith)
 remove-remove (x ∷ xs) (suc j) (suc k) h = ap (λ w. x ∷ w) (remove-remove xs j k (omega arith))
-
 
 -- as many elements as stood there take their places
 pub refill-all : {X : Type 0} (old xs : List X) → length xs ≡ length old → refill (length old) old xs ≡ xs

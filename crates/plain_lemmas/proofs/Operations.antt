@@ -7,4 +7,3 @@ swap_middle op assoc comm a b c d =
     assoc a b (op c d)
     ∙ ap (op a) (sym (assoc b c d) ∙ ap (λ e. op e d) (comm b c) ∙ assoc c b d)
     ∙ sym (assoc a c (op b d))
-

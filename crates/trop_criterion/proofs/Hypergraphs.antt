@@ -38,4 +38,3 @@ Reaches-head edges edge u c tail i h set here keeps = All-contains (Keeps set) e
 -- what is reached from a reached node is reached
 pub Reaches-over : (edges : List Hyperedge) (u v w : ℕ) → Reaches edges u v → Reaches edges v w → Reaches edges u w
 Reaches-over edges u v w p q set here keeps = q set (p set here keeps) keeps
-
