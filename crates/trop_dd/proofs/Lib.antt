@@ -9,3 +9,4 @@ pub mod UnitRows
 pub mod Pushes
 pub mod Conversions
 pub mod Equals
+pub mod Copies

@@ -6,6 +6,7 @@ ghost use Rattle.trop_criterion.specs.SizeBound.{HaveSpread};
 ghost use Rattle.trop_dd.specs.Description.{Description, Describes, CountsNew, IsRefusedBy};
 ghost use Rattle.trop_dd.specs.Units.{IsUnitRow};
 
+use crate::copying::{copied_rows, copied_sides, copied_system};
 use crate::error::DdErr;
 use crate::found::Found;
 use crate::narrowing::narrowed;
@@ -102,6 +103,21 @@ impl<S: Scalar> Dd<S> {
         ensures spread { HaveSpread S.ring (4 * system_size S.ring self.now.system * (self.now.n - 1)) self.now.rows }
     {
         &self.rows
+    }
+
+    /// The same description.
+    pub fn copy(&self, alloc: Global) -> Result<Dd<S>, NoMemory>
+        ensures same { IfOk result (λ dd. dd ≡ self.now) }
+    {
+        let n = self.system.n();
+        let system = copied_system(alloc, n, self.system.as_slice())?;
+        let rows = copied_rows(alloc, self.rows.as_slice())?;
+        let sides = copied_sides(alloc, self.sides.as_slice())?;
+        Ok(Dd {
+            system,
+            rows: Gens::from_rows(n, rows),
+            sides,
+        })
     }
 
     /// The canonical list by itself.

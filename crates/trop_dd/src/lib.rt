@@ -3,6 +3,7 @@
 #![tactic(auto)]
 
 mod convert;
+mod copying;
 mod dd;
 mod error;
 mod found;
