@@ -1,0 +1,11 @@
+pub mod Comes
+pub mod Adding
+pub mod Into
+pub mod Stepping
+pub mod Passing
+pub mod Fairness
+pub mod Counting
+pub mod Settling
+pub mod Narrowing
+pub mod Ascending
+pub mod Exact

@@ -1,0 +1,4 @@
+pub mod Comes
+pub mod Fair
+pub mod Steps
+pub mod Answers
