@@ -10,7 +10,8 @@ use Rattle.prog_texts.specs.AssertRule.{AssertRule}
 use Rattle.prog_texts.specs.Words.{Counted, skipped}
 use Rattle.prog_texts.specs.Judges.{goes_on}
 use Rattle.prog_texts.specs.Conditions.{Start, Bang, Bracket, Ask, Compare, IsChain, IsConditionOf, IsNegationRest, IsNegation, IsCondition, Nowhere}
-use Rattle.prog_texts.specs.Statements.{Verb, Havocs, Assumes, Asserts, Asks, Loops, Skips, Sets, and_then, IsBlock, IsStatementRest, AreStatements}
+use Rattle.prog_theory.specs.Blocks.{and_then}
+use Rattle.prog_texts.specs.Statements.{Verb, Havocs, Assumes, Asserts, Asks, Loops, Skips, Sets, IsBlock, IsStatementRest, AreStatements}
 use Rattle.prog_theory.specs.Nesting.{Loose, Tight, Single}
 use Rattle.prog_theory.specs.Nesting.{cond_nesting, stmt_nesting, block_nesting}
 
@@ -40,7 +41,7 @@ pub many_keeps : {A V : Type 0} {J : V → Counted → Option (Result A FaultKin
 many_keeps P step x us y h (NoMore none is) = subst P (sym is) h
 many_keeps P step x us y h (OneMore t a vs ws zs z e j whole k m) = many_keeps P step z zs y (step x a ws z h k) m
 
-chain_keeps : {R : List Counted → Cond → Type 0} (word : List ℕ) (join : Cond → Cond → Cond) (P Q : Cond → Type 0) → ((us : List Counted) (c : Cond) → R us c → P c) → ((c : Cond) → P c → Q c) → ((a b : Cond) → Q a → P b → Q (join a b)) → (us : List Counted) (c : Cond) → IsChain word join R us c → Q c
+pub chain_keeps : {R : List Counted → Cond → Type 0} (word : List ℕ) (join : Cond → Cond → Cond) (P Q : Cond → Type 0) → ((us : List Counted) (c : Cond) → R us c → P c) → ((c : Cond) → P c → Q c) → ((a b : Cond) → Q a → P b → Q (join a b)) → (us : List Counted) (c : Cond) → IsChain word join R us c → Q c
 chain_keeps word join P Q part up both us c h =
     many_keeps Q (λ x a ws y q k. subst Q (sym k.second.is) (both x k.value q (part k.front k.value k.first))) h.value h.back c (up h.value (part h.front h.value h.first)) h.second
 

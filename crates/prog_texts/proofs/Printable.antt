@@ -16,7 +16,8 @@ use Rattle.prog_texts.specs.Judges.{passed, goes_on}
 use Rattle.prog_texts.specs.Operands.{First, first}
 use Rattle.prog_texts.specs.Conditions.{Nowhere}
 use Rattle.prog_texts.specs.Claims.{SideStart, Single, Listed, side_start, AreTerms, IsSideRest, IsSide, IsClaim}
-use Rattle.prog_texts.specs.Statements.{Verb, Havocs, Assumes, Asserts, Asks, Loops, Skips, Sets, and_then, IsBlock, IsStatementRest, AreStatements}
+use Rattle.prog_theory.specs.Blocks.{and_then}
+use Rattle.prog_texts.specs.Statements.{Verb, Havocs, Assumes, Asserts, Asks, Loops, Skips, Sets, IsBlock, IsStatementRest, AreStatements}
 use Rattle.prog_texts.specs.Suits.{SuitsSide, SuitsStmt, SuitsBlock, MayFollow}
 use Rattle.prog_theory.specs.Named.{Named}
 use Rattle.prog_texts.specs.Programs.{undeclared, AreNew, IsProgram}

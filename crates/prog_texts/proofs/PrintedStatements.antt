@@ -22,7 +22,8 @@ use Rattle.prog_texts.specs.Shapes.{language}
 use Rattle.prog_texts.specs.Operands.{First, first, IsSaid, IsOperand}
 use Rattle.prog_texts.specs.Conditions.{Nowhere}
 use Rattle.prog_texts.specs.Claims.{Single, Listed, side_of, side_start, AreTerms, IsSideRest, IsSide, IsClaim}
-use Rattle.prog_texts.specs.Statements.{Verb, Havocs, Assumes, Asserts, Asks, Loops, Skips, Sets, one_more, verb, block_sign, and_then, IsBlock, IsStatementRest, AreStatements}
+use Rattle.prog_theory.specs.Blocks.{and_then}
+use Rattle.prog_texts.specs.Statements.{Verb, Havocs, Assumes, Asserts, Asks, Loops, Skips, Sets, one_more, verb, block_sign, IsBlock, IsStatementRest, AreStatements}
 use Rattle.prog_texts.specs.Inks.{Ink, Says, Name, Blank, Feed}
 use Rattle.prog_texts.specs.Inked.{AreInks}
 use Rattle.prog_theory.specs.Nesting.{Loose}

@@ -29,7 +29,8 @@ use Rattle.prog_texts.specs.Causes.{IsCause}
 use Rattle.prog_texts.specs.Operands.{constant}
 use Rattle.prog_texts.specs.Claims.{side_of}
 use Rattle.prog_texts.specs.Conditions.{Nowhere, nowhere}
-use Rattle.prog_texts.specs.Statements.{Verb, Havocs, Assumes, Asserts, Asks, Loops, Skips, Sets, one_more, verb, and_then, IsBlock, IsStatementRest, AreStatements, AreStatementsOf, statements_of, block_at, statement_rest, one_more_at, statements_at}
+use Rattle.prog_theory.specs.Blocks.{and_then}
+use Rattle.prog_texts.specs.Statements.{Verb, Havocs, Assumes, Asserts, Asks, Loops, Skips, Sets, one_more, verb, IsBlock, IsStatementRest, AreStatements, AreStatementsOf, statements_of, block_at, statement_rest, one_more_at, statements_at}
 use Rattle.prog_texts.proofs.Signs.{Anything, sample, some_sign, some_name, some_next, some_both, some_perhaps, some_number, said_reads, name_reads, IsLed, text_is, led_word, led_sign, led_first, quiet_led, quiet_none}
 use Rattle.prog_texts.proofs.Blamed.{cause_grows, under}
 use Rattle.prog_texts.proofs.OperandLaws.{NoSum, no_sum_led, operand_reads}

@@ -9,6 +9,7 @@ use Rattle.shape_grammar.specs.Steps.{token_past, maybe_past, many_past}
 use Rattle.shape_grammar.specs.Texts.{One, Maybe, Many}
 use Rattle.prog_theory.specs.Statements.{Stmt, Set, Havoc, Assume, Assert, If, While, Skip, Block}
 use Rattle.prog_theory.specs.Statements as tree
+use Rattle.prog_theory.specs.Blocks.{and_then}
 use Rattle.prog_theory.specs.Limits.{Limits}
 use Rattle.prog_texts.specs.AssertRule.{AssertRule}
 use Rattle.prog_texts.specs.Words.{Counted, skipped, says, is_variable}
@@ -44,11 +45,6 @@ verb L names t =
 -- a sign that opens a block, where there is room for it
 abbrev pub block_sign : Bool → Counted → Result (Unit {0}) FaultKind
 block_sign room t = if says (codes "{") t then opening room tt else Err Syntax
-
--- a block and one more statement
-abbrev pub and_then : Block → Stmt → Block
-and_then tree.Empty x = tree.Then x tree.Empty
-and_then (tree.Then y ys) x = tree.Then y (and_then ys x)
 
 -- ---- grammar
 

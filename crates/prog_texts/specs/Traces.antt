@@ -1,5 +1,5 @@
 -- Trace files: a program, the state in which it starts, and its choices.
-use Rattle.std.specs.Prelude.{◌≡◌, ◌<◌, ◌⊎◌, ℤ, true, List, [], ◌∷◌, ◌++◌, codes}
+use Rattle.std.specs.Prelude.{◌≡◌, ◌<◌, ◌≤◌, ◌⊎◌, ℤ, unsigned_abs, All, length, true, List, [], ◌∷◌, ◌++◌, codes}
 use Rattle.trop_text.specs.Digits.{number_of}
 use Rattle.trop_text.specs.declared.fault.FaultKind.{FaultKind}
 use Rattle.trop_text.specs.declared.fault.FaultKind.TheVariants.{Syntax, NumberRange}
@@ -18,6 +18,7 @@ use Rattle.prog_texts.specs.Shapes.{language, program}
 use Rattle.prog_texts.specs.Operands.{IsSaid, said_at}
 use Rattle.prog_texts.specs.Rows.{IsRow, row_at}
 use Rattle.prog_theory.specs.Named.{Named}
+use Rattle.prog_theory.specs.Within.{IsWithin}
 use Rattle.prog_texts.specs.Programs.{IsProgram, program_at, IsProgramCause}
 
 pub record TraceFile : Type 0 where
@@ -43,3 +44,11 @@ abbrev pub IsTraceCause : Limits → AssertRule → FaultKind → List Counted �
 IsTraceCause L rule what before t =
     (Begins language program (before ++ t ∷ []) × IsProgramCause L rule what before t)
     ⊎ ((what ≡ NumberRange) × (is_digits t ≡ true) × (L.entry < number_of (text t)))
+
+-- What a trace file keeps: its program is within the limits, it starts with one number for each variable, and no number of
+-- a row is too great.
+pub record IsTraceWithin (L : Limits) (x : TraceFile) : Type 0 where
+  pub program : IsWithin L x.program
+  pub width : length x.start ≡ length x.program.names
+  pub start : All (λ n. unsigned_abs n ≤ L.entry) x.start
+  pub choices : All (λ n. unsigned_abs n ≤ L.entry) x.choices
