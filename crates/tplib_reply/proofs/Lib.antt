@@ -1,0 +1,3 @@
+pub mod WrittenPieces
+pub mod Refused
+pub mod Steps

@@ -1,0 +1,4 @@
+pub mod FaultTexts
+pub mod StopTexts
+pub mod Refusals
+pub mod Meaning
