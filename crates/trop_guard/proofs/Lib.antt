@@ -1,0 +1,5 @@
+pub mod Chosen
+pub mod FreshRows
+pub mod Products
+pub mod Placing
+pub mod Pairs

@@ -1,0 +1,7 @@
+use Rattle.std.proofs.Common.{take}
+use Rattle.trop_theory.specs.Inequalities.{IsTrueAt}
+use Rattle.trop_theory.specs.StepList.{AreChosen}
+use Rattle.trop_guard.proofs.parts.kept_rows.Given as goal
+
+abbrev pub invariant-loop-row : goal.invariant-loop-row
+invariant-loop-row g l = AreChosen (IsTrueAt g.S.Scalar.ring l.ineq) (take l.row-index l.rows) l.out.items

@@ -1,0 +1,5 @@
+pub mod Fresh
+pub mod Parts
+pub mod Pairs
+pub mod Found
+pub mod Refusals
