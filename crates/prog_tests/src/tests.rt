@@ -1,0 +1,6 @@
+mod counts;
+mod cuts;
+mod faults;
+mod modes;
+mod reading;
+mod traces;
