@@ -7,6 +7,8 @@ mod barrier;
 pub mod laws;
 mod polar;
 mod separation;
+#[cfg(test)]
+mod tests;
 
 pub use polar::{inequality_of, polar_system};
 pub use separation::separate;
