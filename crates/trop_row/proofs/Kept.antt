@@ -1,17 +1,28 @@
 -- Taking out the rows that the others give.
 use Rattle.std.proofs.Common.{◌≡◌, ◌<◌, ◌≤◌, ◌+◌, ◌^◌, ℕ, suc, List, [], length, get_or, sym, ap, ◌∙◌, arith, subst, ⊎_elim}
-use Rattle.std.specs.Prelude.{All, remove, ◌↔◌}
+use Rattle.std.specs.Prelude.{All, AllPairs, remove, ◌↔◌}
 use Rattle.std.proofs.lemmas.Bool.{cases_lt}
 use Rattle.std.proofs.lemmas.List.Edits.{get_or-remove_above, length-remove}
 use Rattle.std.proofs.lemmas.List.Quantifiers.{all_pairs_remove}
 use Rattle.trop_theory.specs.Semiring.{Semiring, SemiringLaws}
+use Rattle.trop_theory.specs.Vectors.{rows_size, AreWide}
 use Rattle.trop_theory.specs.Normal.{IsNormal}
 use Rattle.trop_theory.specs.Combinations.{IsCombination}
 use Rattle.trop_theory.specs.Canonical.{RowBelow}
 use Rattle.trop_theory.proofs.Canonical.{All-IsCombination, IsCombination-least, IsCombination-remove}
 use Rattle.plain_lemmas.proofs.Lists.{remove-remove, All-remove}
-use Rattle.trop_row.specs.Reduction.{Kept}
 use Rattle.trop_row.proofs.Others.{rows_size-remove}
+
+-- what stays while rows are taken out from the last on: those from k on are no combinations of the others
+pub record IsThinned {V : Type 0} (R : Semiring V) (n : ℕ) (start rows : List (List V)) (k : ℕ) : Type 0 where
+  pub wide : AreWide n rows
+  pub sizes : rows_size R rows ≤ 2 ^ 60
+  pub normal : All (IsNormal R) rows
+  pub ascending : AllPairs (RowBelow R) rows
+  pub independent : (j : ℕ) (d : List V) → k ≤ j → j < length rows → IsCombination R n (remove rows j) (get_or rows j d) → ⊥
+  pub same : (x : List V) → IsCombination R n start x ↔ IsCombination R n rows x
+  pub fewer : length rows ≤ length start
+  pub within : k ≤ length rows
 
 module _ {V : Type 0} {R : Semiring V} (laws : SemiringLaws R) (n : ℕ) where
   -- a row that no others give stays so where an earlier row goes
@@ -24,8 +35,8 @@ module _ {V : Type 0} {R : Semiring V} (laws : SemiringLaws R) (n : ℕ) where
       subst (λ v. IsCombination R n v (get_or rows (suc j) d)) (sym (remove-remove rows k j kj)) (subst (IsCombination R n (remove (remove rows k) j)) (get_or-remove_above rows k d j kj l ∙ ap (λ i. get_or rows i d) next) h) in
       alone (IsCombination-least laws n (remove others k) others (get_or rows (suc j) d) others_wide (All-remove (IsCombination R n others) others k (All-IsCombination laws n others others_wide)) moved)
 
-  pub kept_remove : (start rows new : List (List V)) (k m : ℕ) → Kept R n start rows m → m ≡ k + 1 → ((d : List V) → IsCombination R n (remove rows k) (get_or rows k d)) → new ≡ remove rows k → Kept R n start new k
-  kept_remove start rows new k m h em c e = subst (λ v. Kept R n start v k) (sym e) (record {
+  pub kept_remove : (start rows new : List (List V)) (k m : ℕ) → IsThinned R n start rows m → m ≡ k + 1 → ((d : List V) → IsCombination R n (remove rows k) (get_or rows k d)) → new ≡ remove rows k → IsThinned R n start new k
+  kept_remove start rows new k m h em c e = subst (λ v. IsThinned R n start v k) (sym e) (record {
     wide = All-remove (λ row. length row ≡ n) rows k h.wide;
     sizes = rows_size-remove R rows k (2 ^ 60) h.sizes;
     normal = All-remove (IsNormal R) rows k h.normal;
@@ -39,7 +50,7 @@ module _ {V : Type 0} {R : Semiring V} (laws : SemiringLaws R) (n : ℕ) where
       here : k < length rows
       here = omega (arith, h.within)
 
-  pub kept_next : (start rows : List (List V)) (k m : ℕ) → Kept R n start rows m → m ≡ k + 1 → ((d : List V) → IsCombination R n (remove rows k) (get_or rows k d) → ⊥) → Kept R n start rows k
+  pub kept_next : (start rows : List (List V)) (k m : ℕ) → IsThinned R n start rows m → m ≡ k + 1 → ((d : List V) → IsCombination R n (remove rows k) (get_or rows k d) → ⊥) → IsThinned R n start rows k
   kept_next start rows k m h em alone = record {
     wide = h.wide;
     sizes = h.sizes;

@@ -1,5 +1,6 @@
 -- Collecting rows in normal form.
 use Rattle.std.proofs.Common.{⊎_elim, ◌≡◌, ◌≢◌, ◌<◌, ◌≤◌, ◌+◌, ◌^◌, ◌++◌, ℕ, List, [], ◌∷◌, length, take, get_or, sym, ap, ◌∙◌, arith, subst}
+use Rattle.std.specs.Prelude.{All}
 use Rattle.std.proofs.lemmas.List.{take_more, length-map, length_push}
 use Rattle.std.proofs.lemmas.Bool.{cases_lt}
 use Rattle.std.proofs.lemmas.List.Elements.{All-push, All-take}
@@ -11,9 +12,17 @@ use Rattle.trop_theory.proofs.Order.{undo_times, factor_finite, times_one}
 use Rattle.trop_theory.proofs.Rows.{entry-scaled}
 use Rattle.trop_theory.proofs.Sizes.{size-entry}
 use Rattle.trop_theory.proofs.SameCones.{SameCone-push, SameCone-skip, row_size-scaled}
-use Rattle.trop_row.specs.Reduction.{AreReducible, NormalRows}
+use Rattle.trop_row.specs.Reduction.{AreReducible}
 use Rattle.trop_row.proofs.Others.{rows_size-append}
 use Rattle.trop_row.proofs.Steps.{rows_size-at}
+
+-- rows in normal form with the same combinations
+pub record AreNormalised {V : Type 0} (R : Semiring V) (n : ℕ) (rows out : List (List V)) : Type 0 where
+  pub wide : AreWide n out
+  pub normal : All (IsNormal R) out
+  pub sizes : rows_size R out ≤ 2 ^ 60
+  pub fewer : length out ≤ length rows
+  pub same : SameCone R n rows out
 
 module _ {V : Type 0} {R : Semiring V} (laws : SemiringLaws R) where
   -- the factor is the inverse of an entry
@@ -71,7 +80,7 @@ module _ {V : Type 0} {R : Semiring V} (laws : SemiringLaws R) where
       (λ q. omega (arith, q.0, at, size_normal g h (subst (IsNormal R) (sym e) (q.1 i g l)) m))
       small
 
-  pub normal_push : (n : ℕ) (rows out : List (List V)) (i : ℕ) (g h : List V) → NormalRows R n (take i rows) out → i < length rows → AreWide n rows → AreReducible R rows → g ≡ get_or rows i g → Normalises R g h → NormalRows R n (take (i + 1) rows) (out ++ h ∷ [])
+  pub normal_push : (n : ℕ) (rows out : List (List V)) (i : ℕ) (g h : List V) → AreNormalised R n (take i rows) out → i < length rows → AreWide n rows → AreReducible R rows → g ≡ get_or rows i g → Normalises R g h → AreNormalised R n (take (i + 1) rows) (out ++ h ∷ [])
   normal_push n rows out i g h k l w s e m =
       let more : take (i + 1) rows ≡ take i rows ++ g ∷ [] = take_more rows i g l ∙ ap (λ v. take i rows ++ v ∷ []) (sym e) in
       let eg : length g ≡ n = ap length e ∙ w i g l in
@@ -84,7 +93,7 @@ module _ {V : Type 0} {R : Semiring V} (laws : SemiringLaws R) where
         same = subst (λ v. SameCone R n v (out ++ h ∷ [])) (sym more) (SameCone-push laws n (take i rows) out g h (All-take (λ row. length row ≡ n) i rows w) k.wide eg k.same m);
       }
 
-  pub normal_skip : (n : ℕ) (rows out : List (List V)) (i : ℕ) (g : List V) → NormalRows R n (take i rows) out → i < length rows → AreWide n rows → g ≡ get_or rows i g → g ≡ bottom R (length g) → NormalRows R n (take (i + 1) rows) out
+  pub normal_skip : (n : ℕ) (rows out : List (List V)) (i : ℕ) (g : List V) → AreNormalised R n (take i rows) out → i < length rows → AreWide n rows → g ≡ get_or rows i g → g ≡ bottom R (length g) → AreNormalised R n (take (i + 1) rows) out
   normal_skip n rows out i g k l w e b =
       let more : take (i + 1) rows ≡ take i rows ++ g ∷ [] = take_more rows i g l ∙ ap (λ v. take i rows ++ v ∷ []) (sym e) in
       let eg : length g ≡ n = ap length e ∙ w i g l in

@@ -12,8 +12,6 @@ mod reduction;
 mod row;
 mod step;
 mod system;
-#[cfg(test)]
-mod tests;
 
 pub use gens::Gens;
 pub use inequality::Ineq;

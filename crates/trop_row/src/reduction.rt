@@ -4,7 +4,7 @@ ghost use Rattle.trop_theory.specs.Normal.{IsNormal};
 ghost use Rattle.trop_theory.specs.Combinations.{IsCombination, SameCone, AreIndependent};
 ghost use Rattle.trop_theory.specs.Canonical.{RowBelow, IsCanonical};
 ghost use Rattle.trop_theory.specs.Residual.{Meets};
-ghost use Rattle.trop_row.specs.Reduction.{AreReducible, NormalRows};
+ghost use Rattle.trop_row.specs.Reduction.{AreReducible};
 
 use crate::entries::is_zero;
 use crate::gens::Gens;
@@ -73,7 +73,11 @@ fn drop_combinations<S: Scalar>(rows: &mut Vec<Row<S>>, n: u32)
 fn normal_rows<S: Scalar>(alloc: Global, rows: &[Row<S>], n: u32) -> Result<Vec<Row<S>>, NoMemory>
     requires wide { AreWide n rows.now }
     requires sizes { AreReducible S.ring rows.now }
-    ensures { IfOk result (λ out. NormalRows S.ring n rows.now out.items) }
+    ensures wide { IfOk result (λ out. AreWide n out.items) }
+    ensures normal { IfOk result (λ out. All (IsNormal S.ring) out.items) }
+    ensures sizes { IfOk result (λ out. rows_size S.ring out.items ≤ 2 ^ 60) }
+    ensures fewer { IfOk result (λ out. length out.items ≤ length rows.now) }
+    ensures same { IfOk result (λ out. SameCone S.ring n rows.now out.items) }
 {
     let mut out = Vec::new(alloc);
     for row in rows {

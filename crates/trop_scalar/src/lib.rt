@@ -11,6 +11,3 @@ pub use flag::Flag;
 pub use max_int::MaxInt;
 pub use min_int::MinInt;
 pub use scalar::{Numeric, Scalar};
-
-#[cfg(test)]
-mod tests;

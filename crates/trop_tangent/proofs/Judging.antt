@@ -49,15 +49,15 @@ module _ {V : Type 0} {R : Semiring V} (laws : SemiringLaws R) (n : ℕ) (system
     λ g. record { node = (nodes t).1 g.finite; reached = λ u h. (Reaches-tangents R x system graph.edges edges u t).1 (g.reached u ((nodes u).0 h)) },
   )
 
-  pub extreme_from_greatest : (graph : Hypergraph) (found : Option ℕ) (some : Bool) → AreTangents R system x graph.edges → ((i : ℕ) → Has graph.nodes i ↔ IsFinite R x i) → MatchOption found ((t : ℕ) → IsGreatest graph t → ⊥) (λ nodes. ((t : ℕ) × Has nodes t) × ((t : ℕ) → Has nodes t ↔ IsGreatest graph t)) → some ≡ is_some found → IsTrue some ↔ IsExtreme R (Solves R n system) x
-  extreme_from_greatest graph None some edges nodes none e = (
-    λ h. absurd (true≢false (sym h ∙ e)),
-    λ g. let t = (extreme_is_reached laws n system x inside solves).0 g in absurd (none t.0 ((greatest_is_reached graph edges nodes t.0).1 t.1)),
-  )
-  extreme_from_greatest graph (Some set) some edges nodes found e = (
-    λ h. (extreme_is_reached laws n system x inside solves).1 (found.0.0, (greatest_is_reached graph edges nodes found.0.0).0 ((found.1 found.0.0).0 found.0.1)),
-    λ g. e,
-  )
+  module _ (graph : Hypergraph) (edges : AreTangents R system x graph.edges) (nodes : (i : ℕ) → Has graph.nodes i ↔ IsFinite R x i) where
+    -- what is reached from every node of the tangent hypergraph, as one set
+    pub reached_none : (none : ℕ) → ((t : ℕ) → IsGreatest graph t → ⊥) → ((t : ℕ) → Has none t → ⊥) → (t : ℕ) → Has none t ↔ IsReachedFromAll R system x t
+    reached_none none apart empty t = (λ h. absurd (empty t h), λ r. absurd (apart t ((greatest_is_reached graph edges nodes t).1 r)))
+
+    pub reached_some : (found : ℕ) → ((t : ℕ) → Has found t ↔ IsGreatest graph t) → (t : ℕ) → Has found t ↔ IsReachedFromAll R system x t
+    reached_some found all t =
+        let same = greatest_is_reached graph edges nodes t in
+        (λ h. same.0 ((all t).0 h), λ r. (all t).1 (same.1 r))
 
   -- a row that is not bottom has a finite entry
   pub some_finite : (x ≢ bottom R n) → (u : ℕ) × IsFinite R x u

@@ -1,6 +1,8 @@
 use Rattle.std.proofs.Common.{◌≡◌, length, arith, ap, ◌∙◌, subst}
+use Rattle.std.proofs.lemmas.List.{take_all}
 use Rattle.trop_theory.specs.Vectors.{row_size, bottom}
 use Rattle.trop_theory.specs.Normal.{Normalises}
+use Rattle.trop_theory.specs.Combinations.{SameCone}
 use Rattle.trop_row.proofs.Steps.{rows_size-at}
 use Rattle.trop_row.proofs.NormalSteps.{normal_push, normal_skip, size_reducible}
 use Rattle.trop_row.proofs.reduction.normal_rows.Goals as goal
@@ -23,3 +25,7 @@ loop-row-preserved g c =
           (normal_skip g.met.S.Scalar.ring_laws c.args.n c.args.rows.now c.loop-row.out.items c.loop-row.row-index c.row-item.result c.loop-row.invariant
           (omega arith) c.requires.wide c.row-item.is (subst (λ v. v ≡ bottom R (length v)) c.in_ok-next.ensures.same w.if-normalise.ensures.no))
     ]
+
+pub returns-clause-same : goal.returns-clause-same
+returns-clause-same g c =
+    subst (λ rows. SameCone g.S.Scalar.ring c.args.n rows c.loop-row.out.items) (take_all c.loop-row.row-index c.args.rows.now (omega arith)) c.loop-row.invariant.same
