@@ -35,7 +35,8 @@ stable (inl a) h = a
 stable (inr f) h = absurd (h f)
 
 -- some number below n has a decided property, or none has
-pub some_below : (P : ℕ → Type 0) → ((i : ℕ) → P i ⊎ (P i → ⊥)) → (n : ℕ) → ((i : ℕ) × (i < n) × P i) ⊎ ((i : ℕ) → i < n → P i → ⊥)
+pub some_below : (P : ℕ → Type 0) → ((i : ℕ) → P i ⊎ (P i → ⊥)) → (n : ℕ) →
+    ((i : ℕ) × (i < n) × P i) ⊎ ((i : ℕ) → i < n → P i → ⊥)
 some_below P d zero = inr (λ i l h. absurd (omega arith))
 some_below P d (suc n) =
     ⊎_elim
@@ -56,7 +57,8 @@ abbrev pub Decided : Type 0 → Type 0
 Decided P = P ⊎ (P → ⊥)
 
 -- each number below m, or one that fails
-pub all_or_some : (P : ℕ → Type 0) → ((i : ℕ) → Decided (P i)) → (m : ℕ) → ((i : ℕ) → i < m → P i) ⊎ ((i : ℕ) × (i < m) × (P i → ⊥))
+pub all_or_some : (P : ℕ → Type 0) → ((i : ℕ) → Decided (P i)) → (m : ℕ) →
+    ((i : ℕ) → i < m → P i) ⊎ ((i : ℕ) × (i < m) × (P i → ⊥))
 all_or_some P d zero = inl (λ i l. absurd (omega arith))
 all_or_some P d (suc m) = ⊎_elim all some (all_or_some P d m)
   where
@@ -70,6 +72,7 @@ all_or_some P d (suc m) = ⊎_elim all some (all_or_some P d m)
     some s = inr (s.0, omega (arith, s.1), s.2)
 
 -- a search that finds none exactly where a fact holds tells it
-pub none_found : {X P : Type 0} {Q : X → Type 0} (found : Option X) (none : Bool) → none ≡ is_none found → MatchOption found P Q → ((x : X) → Q x → P → ⊥) → IsTrue none ↔ P
+pub none_found : {X P : Type 0} {Q : X → Type 0} (found : Option X) (none : Bool) → none ≡ is_none found →
+    MatchOption found P Q → ((x : X) → Q x → P → ⊥) → IsTrue none ↔ P
 none_found None none e h f = (λ t. h, λ p. e)
 none_found (Some x) none e h f = (λ t. absurd (true≢false (sym t ∙ e)), λ p. absurd (f x h p))

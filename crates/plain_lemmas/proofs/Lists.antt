@@ -19,7 +19,9 @@ Any-head P y xs h = (0, y, omega arith, refl, h)
 -- some element of a list
 pub Any-decided : {X : Type 0} (P : X → Type 0) → ((x : X) → Decided (P x)) → (xs : List X) → Decided (Any P xs)
 Any-decided P d [] = inr (λ h. let l = h.2 in absurd (omega arith))
-Any-decided P d (x ∷ xs) = ⊎_elim (λ p. inl (Any-head P x xs p)) (λ np. ⊎_elim (λ q. inl (Any-cons P x xs q)) (λ nq. inr (λ h. neither np nq h.0 h.1 h.2 h.3 h.4)) (Any-decided P d xs)) (d x)
+Any-decided P d (x ∷ xs) = ⊎_elim (λ p. inl (Any-head P x xs p))
+    (λ np. ⊎_elim (λ q. inl (Any-cons P x xs q)) (λ nq. inr (λ h. neither np nq h.0 h.1 h.2 h.3 h.4))
+    (Any-decided P d xs)) (d x)
   where
     neither : (P x → ⊥) → (Any P xs → ⊥) → (k : ℕ) (y : _) → k < length (x ∷ xs) → get_or (x ∷ xs) k y ≡ y → P y → ⊥
     neither np nq zero y l e p = np (subst P (sym e) p)
@@ -59,14 +61,17 @@ module _ {X : Type 0} where
       let r = chosen_of P d xs in
       record {
         chosen = y ∷ r.chosen;
-        there = λ x h q. ⊎_elim (λ e. (0, omega arith, e)) (λ t. Contains-cons y r.chosen x (r.there x t q)) (Contains-cons_cases y xs x h);
-        back = λ x h. ⊎_elim (λ e. ((0, omega arith, e), subst P e p)) (λ t. (Contains-cons y xs x (r.back x t).0, (r.back x t).1)) (Contains-cons_cases y r.chosen x h);
+        there = λ x h q. ⊎_elim (λ e. (0, omega arith, e)) (λ t. Contains-cons y r.chosen x (r.there x t q))
+            (Contains-cons_cases y xs x h);
+        back = λ x h. ⊎_elim (λ e. ((0, omega arith, e), subst P e p))
+            (λ t. (Contains-cons y xs x (r.back x t).0, (r.back x t).1)) (Contains-cons_cases y r.chosen x h);
       })
       (λ np.
       let r = chosen_of P d xs in
       record {
         chosen = r.chosen;
-        there = λ x h q. ⊎_elim (λ e. absurd (np (subst P (sym e) q))) (λ t. r.there x t q) (Contains-cons_cases y xs x h);
+        there = λ x h q. ⊎_elim (λ e. absurd (np (subst P (sym e) q))) (λ t. r.there x t q)
+            (Contains-cons_cases y xs x h);
         back = λ x h. (Contains-cons y xs x (r.back x h).0, (r.back x h).1);
       })
       (d y)
@@ -79,7 +84,8 @@ products f (x ∷ xs) ys = map (f x) ys ++ products f xs ys
 module _ {X : Type 0} (f : X → X → X) where
   pub Contains-map : (g : X → X) (ys : List X) (y : X) → Contains ys y → Contains (map g ys) (g y)
   Contains-map g [] y h = absurd (Contains-none y h)
-  Contains-map g (z ∷ ys) y h = ⊎_elim (λ e. (0, omega arith, ap g e)) (λ t. Contains-cons (g z) (map g ys) (g y) (Contains-map g ys y t)) (Contains-cons_cases z ys y h)
+  Contains-map g (z ∷ ys) y h = ⊎_elim (λ e. (0, omega arith, ap g e))
+      (λ t. Contains-cons (g z) (map g ys) (g y) (Contains-map g ys y t)) (Contains-cons_cases z ys y h)
 
   pub from_map : (g : X → X) (ys : List X) (z : X) → Contains (map g ys) z → (y : X) × Contains ys y × (z ≡ g y)
   from_map g [] z h = absurd (Contains-none z h)
@@ -88,14 +94,17 @@ module _ {X : Type 0} (f : X → X → X) where
       (λ t. let r = from_map g ys z t in (r.0, Contains-cons w ys r.0 r.1, r.2))
       (Contains-cons_cases (g w) (map g ys) z h)
 
-  pub Contains-products : (xs ys : List X) (x y : X) → Contains xs x → Contains ys y → Contains (products f xs ys) (f x y)
+  pub Contains-products : (xs ys : List X) (x y : X) → Contains xs x → Contains ys y →
+      Contains (products f xs ys) (f x y)
   Contains-products [] ys x y h k = absurd (Contains-none x h)
   Contains-products (z ∷ xs) ys x y h k = ⊎_elim
-      (λ e. subst (λ w. Contains (map (f z) ys ++ products f xs ys) (f w y)) e (Contains-append_left (map (f z) ys) (products f xs ys) (f z y) (Contains-map (f z) ys y k)))
+      (λ e. subst (λ w. Contains (map (f z) ys ++ products f xs ys) (f w y)) e
+      (Contains-append_left (map (f z) ys) (products f xs ys) (f z y) (Contains-map (f z) ys y k)))
       (λ t. Contains-append_right (map (f z) ys) (products f xs ys) (f x y) (Contains-products xs ys x y t k))
       (Contains-cons_cases z xs x h)
 
-  pub from_products : (xs ys : List X) (z : X) → Contains (products f xs ys) z → (x : X) × (y : X) × Contains xs x × Contains ys y × (z ≡ f x y)
+  pub from_products : (xs ys : List X) (z : X) → Contains (products f xs ys) z →
+      (x : X) × (y : X) × Contains xs x × Contains ys y × (z ≡ f x y)
   from_products [] ys z h = absurd (Contains-none z h)
   from_products (w ∷ xs) ys z h = ⊎_elim
       (λ t. let r = from_map (f w) ys z t in (w, r.0, (0, omega arith, refl), r.1, r.2))

@@ -12,12 +12,14 @@ pub tally_below : (f g : ℕ → ℕ) (n : ℕ) → ((i : ℕ) → i < n → f i
 tally_below f g zero h = omega arith
 tally_below f g (suc n) h = omega (arith, tally_below f g n (λ i l. h i (omega arith)), h n (omega arith))
 
-pub tally_less : (f g : ℕ → ℕ) (n i : ℕ) → ((j : ℕ) → j < n → f j ≤ g j) → i < n → f i + 1 ≤ g i → tally f n + 1 ≤ tally g n
+pub tally_less : (f g : ℕ → ℕ) (n i : ℕ) → ((j : ℕ) → j < n → f j ≤ g j) → i < n → f i + 1 ≤ g i →
+    tally f n + 1 ≤ tally g n
 tally_less f g zero i h l e = absurd (omega arith)
 tally_less f g (suc n) i h l e =
     ⊎_elim
     (λ k. omega (arith, tally_less f g n i (λ j m. h j (omega arith)) k e, h n (omega arith)))
-    (λ k. let s : f n + 1 ≤ g n = subst (λ j. f j + 1 ≤ g j) (omega arith) e in omega (arith, tally_below f g n (λ j m. h j (omega arith)), s))
+    (λ k. let s : f n + 1 ≤ g n = subst (λ j. f j + 1 ≤ g j) (omega arith) e in
+    omega (arith, tally_below f g n (λ j m. h j (omega arith)), s))
     (cases_lt i n)
 
 pub tally_one : (n : ℕ) → tally (λ i. 1) n ≡ n
@@ -67,10 +69,20 @@ pub count-le : (set : ℕ → Bool) (n : ℕ) → count set n ≤ n
 count-le set n = omega (arith, tally_below (mark set) (λ i. 1) n (λ i l. mark-le set i), tally_one n)
 
 pub count_some : (set : ℕ → Bool) (n i : ℕ) → i < n → IsTrue (set i) → 1 ≤ count set n
-count_some set n i l h = omega (arith, tally_less (λ i. 0) (mark set) n i (λ j m. omega arith) l (omega (arith, mark_in set i h)), tally_zero n)
+count_some set n i l h = omega (
+  arith,
+  tally_less (λ i. 0) (mark set) n i (λ j m. omega arith) l
+      (omega (arith, mark_in set i h)),
+  tally_zero n,
+)
 
 pub count_missing : (set : ℕ → Bool) (n i : ℕ) → i < n → (IsTrue (set i) → ⊥) → count set n + 1 ≤ n
-count_missing set n i l h = omega (arith, tally_less (mark set) (λ i. 1) n i (λ j m. mark-le set j) l (omega (arith, mark_out set i h)), tally_one n)
+count_missing set n i l h = omega (
+  arith,
+  tally_less (mark set) (λ i. 1) n i (λ j m. mark-le set j) l
+      (omega (arith, mark_out set i h)),
+  tally_one n,
+)
 
 -- the set with one more number
 abbrev pub added : (ℕ → Bool) → ℕ → ℕ → Bool

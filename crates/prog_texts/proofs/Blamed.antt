@@ -10,10 +10,18 @@ use Rattle.prog_texts.specs.Causes.{IsOpen, IsInside, IsCause}
 
 IsInside-grows : (d : ℕ) (us before : List Counted) (t : Counted) → IsInside d before t → IsInside d (us ++ before) t
 IsInside-grows zero us before t h = tt
-IsInside-grows (suc d) us before t h = (us ++ h.0, h.1, h.2, (ap (λ (z : List Counted). us ++ z) h.3 ∙ sym (append_assoc us h.0 (h.2 ∷ h.1))), h.4, h.5)
+IsInside-grows (suc d) us before t h = (
+  us ++ h.0,
+  h.1,
+  h.2,
+  (ap (λ (z : List Counted). us ++ z) h.3 ∙ sym (append_assoc us h.0 (h.2 ∷ h.1))),
+  h.4,
+  h.5,
+)
 
 module _ (L : Limits) (rule : AssertRule) (names : List (List ℕ)) where
-  grown : (d : ℕ) (us : List Counted) (w : FaultKind) (before : List Counted) (t : Counted) → IsCause L rule names d w before t → IsCause L rule names d w (us ++ before) t
+  grown : (d : ℕ) (us : List Counted) (w : FaultKind) (before : List Counted) (t : Counted) →
+      IsCause L rule names d w before t → IsCause L rule names d w (us ++ before) t
   grown d us TooDeep before t h = (h.0, IsInside-grows d us before t h.1)
   grown d us NumberRange before t h = h
   grown d us UnknownName before t h = h
@@ -31,7 +39,9 @@ module _ (L : Limits) (rule : AssertRule) (names : List (List ℕ)) where
   cause_grows d = record { behind = grown d }
 
   -- one sign more around it
-  pub under : (d : ℕ) (front : List Counted) (s : Counted) (before : List Counted) (t : Counted) → IsOpen s (before ++ t ∷ []) → (w : FaultKind) → IsCause L rule names d w before t → IsCause L rule names (suc d) w (front ++ s ∷ before) t
+  pub under : (d : ℕ) (front : List Counted) (s : Counted) (before : List Counted) (t : Counted) →
+      IsOpen s (before ++ t ∷ []) → (w : FaultKind) → IsCause L rule names d w before t →
+      IsCause L rule names (suc d) w (front ++ s ∷ before) t
   under d front s before t inside TooDeep h = (h.0, (front, before, s, refl, inside, h.1))
   under d front s before t inside NumberRange h = h
   under d front s before t inside UnknownName h = h

@@ -1,4 +1,6 @@
 -- The coordinates and the numbers of what is spelled are in bounds, and its sides are whole.
+-- Index: many_judged, block_holds, known_place, operand_coordinate, sized_at_most, number_at_most, abs_neg,
+-- operand_number, suits_block.
 use Rattle.std.proofs.Common.{◌≡◌, ◌≤◌, ◌<◌, ℕ, zero, suc, pos, neg_ℤ, Bool, true, false, cond, Option, Some, None, List, [], ◌∷◌, length, codes, Result, Ok, Err, refl, sym, ap, subst, arith, nat_le}
 use Rattle.std.specs.Prelude.{All, unsigned_abs}
 use Rattle.std.proofs.lemmas.Bool.Decides.{nat_tests}
@@ -30,7 +32,10 @@ use Rattle.prog_texts.proofs.NoDeeper.{many_keeps, chain_keeps}
 
 -- ---- what was judged
 
-compared : (a b c d room many : Bool) (v : Result First FaultKind) (f : First) → cond a (opening room Bang) (cond b (opening room Bracket) (cond c (cond many (Err TooManyAtoms) (Ok Ask)) (cond d (cond many (Err TooManyAtoms) (passed Compare v)) (Err Syntax)))) ≡ Ok (Compare f) → v ≡ Ok f
+compared : (a b c d room many : Bool) (v : Result First FaultKind) (f : First) →
+    cond a (opening room Bang) (cond b (opening room Bracket)
+    (cond c (cond many (Err TooManyAtoms) (Ok Ask))
+    (cond d (cond many (Err TooManyAtoms) (passed Compare v)) (Err Syntax)))) ≡ Ok (Compare f) → v ≡ Ok f
 compared true b c d true many v f e = absurd cc
 compared true b c d false many v f e = absurd cc
 compared false true c d true many v f e = absurd cc
@@ -42,7 +47,9 @@ compared false false false true room false (Ok g) f e = let same : g ≡ f = cc 
 compared false false false true room false (Err w) f e = absurd cc
 compared false false false false room many v f e = absurd cc
 
-single_first : (a b p q : Bool) (v : Result First FaultKind) (f : First) → cond a (cond p (Err AssertMode) (Ok (Listed Greatest))) (cond b (cond q (Err AssertMode) (Ok (Listed Least))) (passed Single v)) ≡ Ok (Single f) → v ≡ Ok f
+single_first : (a b p q : Bool) (v : Result First FaultKind) (f : First) →
+    cond a (cond p (Err AssertMode) (Ok (Listed Greatest)))
+    (cond b (cond q (Err AssertMode) (Ok (Listed Least))) (passed Single v)) ≡ Ok (Single f) → v ≡ Ok f
 single_first true b true q v f e = absurd cc
 single_first true b false q v f e = absurd cc
 single_first false true p true v f e = absurd cc
@@ -51,8 +58,13 @@ single_first false false p q (Ok g) f e = let same : g ≡ f = cc in ap Ok same
 single_first false false p q (Err w) f e = absurd cc
 
 sets_known : (a b c d e f g m : Bool) (v : Result ℕ FaultKind) (i : ℕ)
-    → cond a (Some (cond m (Err TooManyStatements) (Ok Havocs))) (cond b (Some (cond m (Err TooManyStatements) (Ok Assumes))) (cond c (Some (cond m (Err TooManyStatements) (Ok Asserts))) (cond d (Some (cond m (Err TooManyStatements) (Ok Asks)))
-    (cond e (Some (cond m (Err TooManyStatements) (Ok Loops))) (cond f (Some (cond m (Err TooManyStatements) (Ok Skips))) (cond g (Some (cond m (Err TooManyStatements) (passed Sets v))) None)))))) ≡ Some (Ok (Sets i)) → v ≡ Ok i
+    → cond a (Some (cond m (Err TooManyStatements) (Ok Havocs)))
+    (cond b (Some (cond m (Err TooManyStatements) (Ok Assumes)))
+    (cond c (Some (cond m (Err TooManyStatements) (Ok Asserts)))
+    (cond d (Some (cond m (Err TooManyStatements) (Ok Asks)))
+    (cond e (Some (cond m (Err TooManyStatements) (Ok Loops)))
+    (cond f (Some (cond m (Err TooManyStatements) (Ok Skips)))
+    (cond g (Some (cond m (Err TooManyStatements) (passed Sets v))) None)))))) ≡ Some (Ok (Sets i)) → v ≡ Ok i
 sets_known true b c d e f g true v i h = absurd cc
 sets_known true b c d e f g false v i h = absurd cc
 sets_known false true c d e f g true v i h = absurd cc
@@ -75,30 +87,44 @@ named_known true v i e = e
 named_known false v i e = absurd cc
 
 -- what each step keeps holds at the end, where the judge's word is known
-pub many_judged : {A V : Type 0} {J : V → Counted → Option (Result A FaultKind)} {S : V → A → List Counted → V → Type 0} (P : V → Type 0) → ((x : V) (t : Counted) (a : A) (us : List Counted) (y : V) → P x → J x t ≡ Some (Ok a) → S x a us y → P y) → (x : V) (us : List Counted) (y : V) → P x → Many skipped J S x us y → P y
+pub many_judged : {A V : Type 0} {J : V → Counted → Option (Result A FaultKind)} {S : V → A → List Counted → V → Type 0}
+    (P : V → Type 0) → ((x : V) (t : Counted) (a : A) (us : List Counted) (y : V) → P x → J x t ≡ Some (Ok a) →
+    S x a us y → P y) → (x : V) (us : List Counted) (y : V) → P x → Many skipped J S x us y → P y
 many_judged P step x us y h (NoMore none is) = subst P (sym is) h
 many_judged P step x us y h (OneMore t a vs ws zs z e j whole k m) = many_judged P step z zs y (step x t a ws z h j k) m
 
 -- ---- of each term and each variable
 
 module _ (L : Limits) (rule : AssertRule) (names : List (List ℕ)) (V : ℕ → Type 0) (T : Term → Type 0)
-    (variables : (t : Counted) (i : ℕ) → known names t ≡ Ok i → V i) (operands : (t : Counted) (f : First) (us : List Counted) (x : Term) → first L names t ≡ Ok f → IsOperandRest L f us x → T x) where
+    (variables : (t : Counted) (i : ℕ) → known names t ≡ Ok i → V i)
+    (operands : (t : Counted) (f : First) (us : List Counted) (x : Term) → first L names t ≡ Ok f →
+    IsOperandRest L f us x → T x) where
   operand_holds : (us : List Counted) (x : Term) → IsOperand L names us x → T x
   operand_holds us x h = operands h.first.token h.value h.back x h.first.is h.second
 
   abbrev E : Cond → Type 0
   E c = EachTerm T c
 
-  condition_holds : {R : List Counted → Cond → Type 0} → ((us : List Counted) (c : Cond) → R us c → E c) → (us : List Counted) (c : Cond) → IsConditionOf R us c → E c
-  condition_holds part us c h = chain_keeps (codes "||") Or E E (chain_keeps (codes "&&") And E E part (λ c k. k) (λ a b k m. (k, m))) (λ c k. k) (λ a b k m. (k, m)) us c h
+  condition_holds : {R : List Counted → Cond → Type 0} → ((us : List Counted) (c : Cond) → R us c → E c) →
+      (us : List Counted) (c : Cond) → IsConditionOf R us c → E c
+  condition_holds part us c h = chain_keeps (codes "||") Or E E
+      (chain_keeps (codes "&&") And E E part (λ c k. k) (λ a b k m. (k, m))) (λ c k. k) (λ a b k m. (k, m)) us c h
 
-  rest_holds : {Inner : List Counted → Cond → Type 0} → ((us : List Counted) (c : Cond) → Inner us c → E c) → (room : Bool) (t : Counted) (s : Start) (us : List Counted) (c : Cond) → start L names room t ≡ Ok s → IsNegationRest L names Inner s us c → E c
+  rest_holds : {Inner : List Counted → Cond → Type 0} → ((us : List Counted) (c : Cond) → Inner us c → E c) →
+      (room : Bool) (t : Counted) (s : Start) (us : List Counted) (c : Cond) → start L names room t ≡ Ok s →
+      IsNegationRest L names Inner s us c → E c
   rest_holds part room t Bang us c e h = subst E (sym h.second.is) (part h.front h.value h.first)
-  rest_holds part room t Bracket us c e h = subst E (sym h.second.second.is) (condition_holds part h.front h.value h.first)
+  rest_holds part room t Bracket us c e h = subst E (sym h.second.second.is)
+      (condition_holds part h.front h.value h.first)
   rest_holds part room t Ask us c e h = subst E (sym h.is) tt
   rest_holds part room t (Compare f) us c e h =
       let right = h.second.second in
-      subst E (sym right.second.is) (operands t f h.front h.value (compared (says (codes "!") t) (says (codes "(") t) (says (codes "?") t) (begins_operand t) room (is_atom_too_many L t) (first L names t) f e) h.first, operand_holds right.front right.value right.first)
+      subst E (sym right.second.is) (
+        operands t f h.front h.value
+            (compared (says (codes "!") t) (says (codes "(") t) (says (codes "?") t) (begins_operand t) room
+            (is_atom_too_many L t) (first L names t) f e) h.first,
+        operand_holds right.front right.value right.first,
+      )
 
   negation_holds : (n : ℕ) (us : List Counted) (c : Cond) → IsNegation L names n us c → E c
   unfolding IsNegation
@@ -109,14 +135,22 @@ module _ (L : Limits) (rule : AssertRule) (names : List (List ℕ)) (V : ℕ →
   all_one x h = All-cons T x [] h (All-nil T)
 
   terms_hold : (us : List Counted) (xs : List Term) → AreTerms L names us xs → All T xs
-  terms_hold us xs h = many_keeps (λ ys. All T ys) (λ ys a ws z q k. subst (λ zs. All T zs) (sym k.second.is) (All-append T ys (k.value ∷ []) q (all_one k.value (operand_holds k.front k.value k.first)))) (h.value ∷ []) h.back xs (all_one h.value (operand_holds h.front h.value h.first)) h.second
+  terms_hold us xs h = many_keeps (λ ys. All T ys)
+      (λ ys a ws z q k. subst (λ zs. All T zs) (sym k.second.is)
+      (All-append T ys (k.value ∷ []) q (all_one k.value (operand_holds k.front k.value k.first))))
+      (h.value ∷ []) h.back xs (all_one h.value (operand_holds h.front h.value h.first)) h.second
 
   abbrev EachSide : Side → Type 0
   EachSide s = All T s.terms
 
-  side_rest_holds : (t : Counted) (s : SideStart) (us : List Counted) (x : Side) → side_start L rule names t ≡ Ok s → IsSideRest L names s us x → EachSide x
-  side_rest_holds t (Single f) us x e h = subst EachSide (sym h.second.is) (all_one h.value (operands t f h.front h.value (single_first (says (codes "max") t) (says (codes "min") t) (is_against rule (text t)) (is_against rule (text t)) (first L names t) f e) h.first))
-  side_rest_holds t (Listed word) us x e h = let m = h.second in subst EachSide (sym m.second.second.is) (terms_hold m.front m.value m.first)
+  side_rest_holds : (t : Counted) (s : SideStart) (us : List Counted) (x : Side) → side_start L rule names t ≡ Ok s →
+      IsSideRest L names s us x → EachSide x
+  side_rest_holds t (Single f) us x e h = subst EachSide (sym h.second.is)
+      (all_one h.value (operands t f h.front h.value
+      (single_first (says (codes "max") t) (says (codes "min") t) (is_against rule (text t)) (is_against rule (text t))
+      (first L names t) f e) h.first))
+  side_rest_holds t (Listed word) us x e h = let m = h.second in
+      subst EachSide (sym m.second.second.is) (terms_hold m.front m.value m.first)
 
   side_holds : (us : List Counted) (x : Side) → IsSideText L rule names us x → EachSide x
   side_holds us x h = side_rest_holds h.first.token h.value h.back x h.first.is h.second
@@ -125,7 +159,8 @@ module _ (L : Limits) (rule : AssertRule) (names : List (List ℕ)) (V : ℕ →
   EachOf c = EachSide c.left × EachSide c.right
 
   claim_holds : (us : List Counted) (c : Claim) → IsClaimText L rule names us c → EachOf c
-  claim_holds us c h = let m = h.second.second in subst EachOf (sym m.second.is) (side_holds h.front h.value h.first, side_holds m.front m.value m.first)
+  claim_holds us c h = let m = h.second.second in subst EachOf (sym m.second.is)
+      (side_holds h.front h.value h.first, side_holds m.front m.value m.first)
 
   abbrev Good : Block → Type 0
   Good b = EachBlock V T b
@@ -137,32 +172,55 @@ module _ (L : Limits) (rule : AssertRule) (names : List (List ℕ)) (V : ℕ →
   and_then-holds tree.Empty x h k = (k, tt)
   and_then-holds (tree.Then y ys) x h k = (h.0, and_then-holds ys x h.1 k)
 
-  module _ (d : ℕ) (room : Bool) (Inner : List Counted → Block → Type 0) (part : (us : List Counted) (b : Block) → Inner us b → Good b) where
+  module _ (d : ℕ) (room : Bool) (Inner : List Counted → Block → Type 0)
+      (part : (us : List Counted) (b : Block) → Inner us b → Good b) where
     braces_hold : (us : List Counted) (b : Block) → IsBlock room Inner us b → Good b
     braces_hold us b h = let m = h.second in subst Good (sym m.second.second.is) (part m.front m.value m.first)
 
-    else_holds : (us : List Counted) (b : Block) → Maybe skipped (goes_on (codes "else")) tree.Empty (λ u. IsBlock room Inner) us b → Good b
+    else_holds : (us : List Counted) (b : Block) →
+        Maybe skipped (goes_on (codes "else")) tree.Empty (λ u. IsBlock room Inner) us b → Good b
     else_holds us b (LeftOut none is) = subst Good (sym is) tt
     else_holds us b (Written t a vs e k h) = braces_hold vs b h
 
     condition_at_holds : (us : List Counted) (c : Cond) → IsCondition L names d us c → E c
     condition_at_holds us c h = condition_holds (negation_holds d) us c h
 
-    stmt_holds : (t : Counted) (v : Verb) (us : List Counted) (x : Stmt) → verb L names t ≡ Some (Ok v) → IsStatementRest L rule names d room Inner v us x → GoodStmt x
-    stmt_holds t Havocs us x e h = subst GoodStmt (sym h.second.second.is) (variables h.first.token h.value (named_known (is_variable h.first.token) (known names h.first.token) h.value h.first.is))
+    stmt_holds : (t : Counted) (v : Verb) (us : List Counted) (x : Stmt) → verb L names t ≡ Some (Ok v) →
+        IsStatementRest L rule names d room Inner v us x → GoodStmt x
+    stmt_holds t Havocs us x e h = subst GoodStmt (sym h.second.second.is)
+        (variables h.first.token h.value (named_known (is_variable h.first.token)
+        (known names h.first.token) h.value h.first.is))
     stmt_holds t Assumes us x e h = subst GoodStmt (sym h.second.second.is) (condition_at_holds h.front h.value h.first)
     stmt_holds t Asserts us x e h = subst GoodStmt (sym h.second.second.is) (claim_holds h.front h.value h.first)
     stmt_holds t Asks us x e h =
         let m = h.second in
-        subst GoodStmt (sym m.second.second.is) (condition_at_holds h.front h.value h.first, braces_hold m.front m.value m.first, else_holds m.second.front m.second.value m.second.first)
-    stmt_holds t Loops us x e h = let m = h.second in subst GoodStmt (sym m.second.is) (condition_at_holds h.front h.value h.first, braces_hold m.front m.value m.first)
+        subst GoodStmt (sym m.second.second.is) (
+          condition_at_holds h.front h.value h.first,
+          braces_hold m.front m.value m.first,
+          else_holds m.second.front m.second.value m.second.first,
+        )
+    stmt_holds t Loops us x e h = let m = h.second in
+        subst GoodStmt (sym m.second.is) (
+          condition_at_holds h.front h.value h.first,
+          braces_hold m.front m.value m.first,
+        )
     stmt_holds t Skips us x e h = subst GoodStmt (sym h.second.is) tt
-    stmt_holds t (Sets i) us x e h = let m = h.second in subst GoodStmt (sym m.second.second.is) (variables t i (sets_known (says (codes "havoc") t) (says (codes "assume") t) (says (codes "assert") t) (says (codes "if") t) (says (codes "while") t) (says (codes "skip") t) (is_variable t) (is_one_too_many L t) (known names t) i e), operand_holds m.front m.value m.first)
+    stmt_holds t (Sets i) us x e h = let m = h.second in
+        subst GoodStmt (sym m.second.second.is) (
+          variables t i
+              (sets_known (says (codes "havoc") t) (says (codes "assume") t) (says (codes "assert") t) (says (codes "if") t)
+              (says (codes "while") t) (says (codes "skip") t) (is_variable t) (is_one_too_many L t) (known names t) i e),
+          operand_holds m.front m.value m.first,
+        )
 
   pub block_holds : (d : ℕ) (us : List Counted) (b : Block) → AreStatements L rule names d us b → Good b
   unfolding AreStatements
-  block_holds zero us b h = many_judged Good (λ xs t v ws ys q j k. subst Good (sym k.second.is) (and_then-holds xs k.value q (stmt_holds 0 false Nowhere (λ us b h. absurd h) t v k.front k.value j k.first))) tree.Empty us b tt h
-  block_holds (suc d) us b h = many_judged Good (λ xs t v ws ys q j k. subst Good (sym k.second.is) (and_then-holds xs k.value q (stmt_holds (suc d) true (AreStatements L rule names d) (block_holds d) t v k.front k.value j k.first))) tree.Empty us b tt h
+  block_holds zero us b h = many_judged Good (λ xs t v ws ys q j k. subst Good (sym k.second.is)
+      (and_then-holds xs k.value q (stmt_holds 0 false Nowhere (λ us b h. absurd h) t v k.front k.value j k.first)))
+      tree.Empty us b tt h
+  block_holds (suc d) us b h = many_judged Good (λ xs t v ws ys q j k. subst Good (sym k.second.is)
+      (and_then-holds xs k.value q (stmt_holds (suc d) true (AreStatements L rule names d)
+      (block_holds d) t v k.front k.value j k.first))) tree.Empty us b tt h
 
 -- ---- coordinates and numbers
 
@@ -170,10 +228,13 @@ pub known_place : (names : List (List ℕ)) (t : Counted) (i : ℕ) → known na
 known_place names t i e = at (place_of (text t) names) refl e
   where
     at : (o : Option ℕ) → place_of (text t) names ≡ o → coordinate o ≡ Ok i → (0 < i) × (i ≤ length names)
-    at (Some j) k h = let same : suc j ≡ i = cc in let p = (position-Some (bytes_eq (text t)) names j [] k).0 in (omega (arith, same), omega (arith, same, p))
+    at (Some j) k h = let same : suc j ≡ i = cc in let p = (position-Some (bytes_eq (text t)) names j [] k).0 in
+        (omega (arith, same), omega (arith, same, p))
     at None k h = absurd cc
 
-first_variable : (a b c : Bool) (v w : Result ℕ FaultKind) (i : ℕ) → cond a (passed Value v) (cond b (Ok Negative) (cond c (passed Variable w) (Err Syntax))) ≡ Ok (Variable i) → w ≡ Ok i
+first_variable : (a b c : Bool) (v w : Result ℕ FaultKind) (i : ℕ) →
+    cond a (passed Value v) (cond b (Ok Negative) (cond c (passed Variable w) (Err Syntax))) ≡ Ok (Variable i) →
+    w ≡ Ok i
 first_variable true b c (Ok n) w i e = absurd cc
 first_variable true b c (Err what) w i e = absurd cc
 first_variable false true c v w i e = absurd cc
@@ -181,7 +242,8 @@ first_variable false false true v (Ok j) i e = let same : j ≡ i = cc in ap Ok 
 first_variable false false true v (Err what) i e = absurd cc
 first_variable false false false v w i e = absurd cc
 
-first_value : (a b c : Bool) (v w : Result ℕ FaultKind) (n : ℕ) → cond a (passed Value v) (cond b (Ok Negative) (cond c (passed Variable w) (Err Syntax))) ≡ Ok (Value n) → v ≡ Ok n
+first_value : (a b c : Bool) (v w : Result ℕ FaultKind) (n : ℕ) →
+    cond a (passed Value v) (cond b (Ok Negative) (cond c (passed Variable w) (Err Syntax))) ≡ Ok (Value n) → v ≡ Ok n
 first_value true b c (Ok m) w n e = let same : m ≡ n = cc in ap Ok same
 first_value true b c (Err what) w n e = absurd cc
 first_value false true c v w n e = absurd cc
@@ -190,19 +252,26 @@ first_value false false true v (Err what) n e = absurd cc
 first_value false false false v w n e = absurd cc
 
 -- the term is one of these names
-pub operand_coordinate : (L : Limits) (names : List (List ℕ)) (t : Counted) (f : First) (us : List Counted) (x : Term) → first L names t ≡ Ok f → IsOperandRest L f us x → x.coord ≤ length names
+pub operand_coordinate : (L : Limits) (names : List (List ℕ)) (t : Counted) (f : First) (us : List Counted) (x : Term) →
+    first L names t ≡ Ok f → IsOperandRest L f us x → x.coord ≤ length names
 operand_coordinate L names t (Value n) us x e h = let k = ap (λ (z : Term). z.coord) h.is in omega (arith, k)
 operand_coordinate L names t Negative us x e h = let k = ap (λ (z : Term). z.coord) h.second.is in omega (arith, k)
 operand_coordinate L names t (Variable i) us x e (LeftOut none is) =
-    let k = ap (λ (z : Term). z.coord) is in let p = (known_place names t i (first_variable (is_digits t) (says (codes "-") t) (is_variable t) (sized L.number t) (known names t) i e)).1 in omega (arith, k, p)
+    let k = ap (λ (z : Term). z.coord) is in let p =
+    (known_place names t i (first_variable (is_digits t) (says (codes "-") t) (is_variable t) (sized L.number t)
+    (known names t) i e)).1 in omega (arith, k, p)
 operand_coordinate L names t (Variable i) us x e (Written u a vs q j h) =
-    let k = ap (λ (z : Term). z.coord) h.second.is in let p = (known_place names t i (first_variable (is_digits t) (says (codes "-") t) (is_variable t) (sized L.number t) (known names t) i e)).1 in omega (arith, k, p)
+    let k = ap (λ (z : Term). z.coord) h.second.is in let p =
+    (known_place names t i (first_variable (is_digits t) (says (codes "-") t) (is_variable t) (sized L.number t)
+    (known names t) i e)).1 in omega (arith, k, p)
 
 pub sized_at_most : (bound : ℕ) (t : Counted) (n : ℕ) → sized bound t ≡ Ok n → n ≤ bound
 sized_at_most bound t n e = at (nat_le (number_of (text t)) bound) refl e
   where
-    at : (b : Bool) → nat_le (number_of (text t)) bound ≡ b → cond b (Ok (number_of (text t))) (Err NumberRange) ≡ Ok n → n ≤ bound
-    at true k h = let same : number_of (text t) ≡ n = cc in let le : number_of (text t) ≤ bound = grind (arith, nat_tests) in omega (arith, same, le)
+    at : (b : Bool) → nat_le (number_of (text t)) bound ≡ b →
+        cond b (Ok (number_of (text t))) (Err NumberRange) ≡ Ok n → n ≤ bound
+    at true k h = let same : number_of (text t) ≡ n = cc in let le : number_of (text t) ≤ bound =
+        grind (arith, nat_tests) in omega (arith, same, le)
     at false k h = absurd cc
 
 pub number_at_most : (bound : ℕ) (t : Counted) (n : ℕ) → number bound t ≡ Ok n → n ≤ bound
@@ -221,14 +290,20 @@ abs_by Plus n = refl
 abs_by Minus n = abs_neg n
 
 -- its number is at most the bound
-pub operand_number : (L : Limits) (names : List (List ℕ)) (t : Counted) (f : First) (us : List Counted) (x : Term) → first L names t ≡ Ok f → IsOperandRest L f us x → unsigned_abs x.add ≤ L.number
+pub operand_number : (L : Limits) (names : List (List ℕ)) (t : Counted) (f : First) (us : List Counted) (x : Term) →
+    first L names t ≡ Ok f → IsOperandRest L f us x → unsigned_abs x.add ≤ L.number
 operand_number L names t (Value n) us x e h =
-    let k = ap (λ (z : Term). unsigned_abs z.add) h.is in let p = sized_at_most L.number t n (first_value (is_digits t) (says (codes "-") t) (is_variable t) (sized L.number t) (known names t) n e) in omega (arith, k, p)
+    let k = ap (λ (z : Term). unsigned_abs z.add) h.is in let p =
+    sized_at_most L.number t n (first_value (is_digits t) (says (codes "-") t) (is_variable t) (sized L.number t)
+    (known names t) n e) in omega (arith, k, p)
 operand_number L names t Negative us x e h =
-    let k = ap (λ (z : Term). unsigned_abs z.add) h.second.is in let p = number_at_most L.number h.first.token h.value h.first.is in omega (arith, k, p, abs_neg h.value)
-operand_number L names t (Variable i) us x e (LeftOut none is) = let k = ap (λ (z : Term). unsigned_abs z.add) is in omega (arith, k)
+    let k = ap (λ (z : Term). unsigned_abs z.add) h.second.is in let p =
+    number_at_most L.number h.first.token h.value h.first.is in omega (arith, k, p, abs_neg h.value)
+operand_number L names t (Variable i) us x e (LeftOut none is) = let k = ap (λ (z : Term). unsigned_abs z.add) is in
+    omega (arith, k)
 operand_number L names t (Variable i) us x e (Written u a vs q j h) =
-    let k = ap (λ (z : Term). unsigned_abs z.add) h.second.is in let p = number_at_most L.number h.first.token h.value h.first.is in omega (arith, k, p, abs_by a h.value)
+    let k = ap (λ (z : Term). unsigned_abs z.add) h.second.is in let p =
+    number_at_most L.number h.first.token h.value h.first.is in omega (arith, k, p, abs_by a h.value)
 
 -- ---- sides
 
@@ -243,7 +318,10 @@ suits_side rule Least (x ∷ xs) h = omega arith
 
 mutual
   suits_stmt : (rule : AssertRule) (x : Stmt) → SuitsStmt rule x → EachClaim IsClaim x
-  suits_stmt rule (tree.Assert c) h = (suits_side rule c.left.word c.left.terms h.0, suits_side rule c.right.word c.right.terms h.1)
+  suits_stmt rule (tree.Assert c) h = (
+    suits_side rule c.left.word c.left.terms h.0,
+    suits_side rule c.right.word c.right.terms h.1,
+  )
   suits_stmt rule (tree.If c a b) h = (suits_block rule a h.0, suits_block rule b h.1)
   suits_stmt rule (tree.While c a) h = suits_block rule a h
   suits_stmt rule (tree.Set i t) h = tt

@@ -21,7 +21,8 @@ use Rattle.prog_texts.proofs.Tallies.{program_tallied}
 under : (a b : ℕ) → nat_le a b ≡ false → b < a
 under a b e = grind (arith, nat_tests)
 
-names_few : (L : Limits) (before xs : List (List ℕ)) → length before ≤ L.vars → MayFollow L before xs → length before + length xs ≤ L.vars
+names_few : (L : Limits) (before xs : List (List ℕ)) → length before ≤ L.vars → MayFollow L before xs →
+    length before + length xs ≤ L.vars
 names_few L before [] h m = omega (arith, h)
 names_few L before (x ∷ xs) h m =
     let lt = under L.vars (length before) m.2 in
@@ -30,7 +31,8 @@ names_few L before (x ∷ xs) h m =
     omega (arith, k, one)
 
 -- what is spelled among the pieces of a text
-pub spelled_within : (L : Limits) (rule : AssertRule) (ps : List Piece) (us rest : List Counted) (p : Named) → counted nothing_before ps ≡ us ++ rest → IsProgram L rule us p → IsWithin L p
+pub spelled_within : (L : Limits) (rule : AssertRule) (ps : List Piece) (us rest : List Counted) (p : Named) →
+    counted nothing_before ps ≡ us ++ rest → IsProgram L rule us p → IsWithin L p
 spelled_within L rule ps us rest p e h =
     let may = spelled_printable L rule us p h in
     let few = names_few L [] p.names (omega arith) may.names in
@@ -38,11 +40,16 @@ spelled_within L rule ps us rest p e h =
     let whole = h.second.second.is in
     let same_names : h.value ≡ p.names = ap (λ (z : Named). z.names) (sym whole) in
     let same_body : h.second.value ≡ p.body = ap (λ (z : Named). z.body) (sym whole) in
-    let fits : FitsBlock (length h.value) h.second.value = block_holds L rule h.value (λ x. (0 < x) × (x ≤ length h.value)) (λ (t : Term). t.coord ≤ length h.value) (known_place h.value) (operand_coordinate L h.value) L.depth h.second.front h.second.value h.second.first in
-    let numbers : EachBlock (λ (x : ℕ). Unit {0}) (IsNumberWithin L.number) h.second.value = block_holds L rule h.value (λ (x : ℕ). Unit {0}) (IsNumberWithin L.number) (λ t i k. tt) (operand_number L h.value) L.depth h.second.front h.second.value h.second.first in
+    let fits : FitsBlock (length h.value) h.second.value =
+    block_holds L rule h.value (λ x. (0 < x) × (x ≤ length h.value)) (λ (t : Term). t.coord ≤ length h.value)
+    (known_place h.value) (operand_coordinate L h.value) L.depth h.second.front h.second.value h.second.first in
+    let numbers : EachBlock (λ (x : ℕ). Unit {0}) (IsNumberWithin L.number) h.second.value =
+    block_holds L rule h.value (λ (x : ℕ). Unit {0}) (IsNumberWithin L.number) (λ t i k. tt)
+    (operand_number L h.value) L.depth h.second.front h.second.value h.second.first in
     record {
       vars = omega (arith, few);
-      coordinates = subst (λ (z : Block). FitsBlock (length p.names) z) same_body (subst (λ (z : List (List ℕ)). FitsBlock (length z) h.second.value) same_names fits);
+      coordinates = subst (λ (z : Block). FitsBlock (length p.names) z) same_body
+          (subst (λ (z : List (List ℕ)). FitsBlock (length z) h.second.value) same_names fits);
       sides = suits_block rule p.body may.sides;
       statements = tally.0;
       atoms = tally.1;
@@ -51,7 +58,8 @@ spelled_within L rule ps us rest p e h =
     }
 
 -- what is read
-pub program_within : (L : Limits) (rule : AssertRule) (ps : List Piece) (p : Named) (rest : List Counted) → program_at L rule (counted nothing_before ps) ≡ Ok (p, rest) → IsWithin L p
+pub program_within : (L : Limits) (rule : AssertRule) (ps : List Piece) (p : Named) (rest : List Counted) →
+    program_at L rule (counted nothing_before ps) ≡ Ok (p, rest) → IsWithin L p
 program_within L rule ps p rest e =
     let ts = counted nothing_before ps in
     let h = (program_reads L rule (length ts)).texts.takes ts p rest (omega arith) e in

@@ -37,32 +37,46 @@ single-loose (And a b) = omega arith
 single-loose (Or a b) = omega arith
 
 -- what each step keeps holds at the end
-pub many_keeps : {A V : Type 0} {J : V → Counted → Option (Result A FaultKind)} {S : V → A → List Counted → V → Type 0} (P : V → Type 0) → ((x : V) (a : A) (us : List Counted) (y : V) → P x → S x a us y → P y) → (x : V) (us : List Counted) (y : V) → P x → Many skipped J S x us y → P y
+pub many_keeps : {A V : Type 0} {J : V → Counted → Option (Result A FaultKind)} {S : V → A → List Counted → V → Type 0}
+    (P : V → Type 0) → ((x : V) (a : A) (us : List Counted) (y : V) → P x → S x a us y → P y) →
+    (x : V) (us : List Counted) (y : V) → P x → Many skipped J S x us y → P y
 many_keeps P step x us y h (NoMore none is) = subst P (sym is) h
 many_keeps P step x us y h (OneMore t a vs ws zs z e j whole k m) = many_keeps P step z zs y (step x a ws z h k) m
 
-pub chain_keeps : {R : List Counted → Cond → Type 0} (word : List ℕ) (join : Cond → Cond → Cond) (P Q : Cond → Type 0) → ((us : List Counted) (c : Cond) → R us c → P c) → ((c : Cond) → P c → Q c) → ((a b : Cond) → Q a → P b → Q (join a b)) → (us : List Counted) (c : Cond) → IsChain word join R us c → Q c
+pub chain_keeps : {R : List Counted → Cond → Type 0} (word : List ℕ) (join : Cond → Cond → Cond) (P Q : Cond → Type 0) →
+    ((us : List Counted) (c : Cond) → R us c → P c) → ((c : Cond) → P c → Q c) →
+    ((a b : Cond) → Q a → P b → Q (join a b)) → (us : List Counted) (c : Cond) → IsChain word join R us c → Q c
 chain_keeps word join P Q part up both us c h =
-    many_keeps Q (λ x a ws y q k. subst Q (sym k.second.is) (both x k.value q (part k.front k.value k.first))) h.value h.back c (up h.value (part h.front h.value h.first)) h.second
+    many_keeps Q (λ x a ws y q k. subst Q (sym k.second.is) (both x k.value q (part k.front k.value k.first))) h.value
+    h.back c (up h.value (part h.front h.value h.first)) h.second
 
-condition_of_nests : (d : ℕ) {R : List Counted → Cond → Type 0} → ((us : List Counted) (c : Cond) → R us c → cond_nesting Single c ≤ d) → (us : List Counted) (c : Cond) → IsConditionOf R us c → cond_nesting Loose c ≤ d
+condition_of_nests : (d : ℕ) {R : List Counted → Cond → Type 0} →
+    ((us : List Counted) (c : Cond) → R us c → cond_nesting Single c ≤ d) → (us : List Counted) (c : Cond) →
+    IsConditionOf R us c → cond_nesting Loose c ≤ d
 condition_of_nests d {R} part us c h =
     chain_keeps (codes "||") Or (λ c. cond_nesting Tight c ≤ d) (λ c. cond_nesting Loose c ≤ d)
-    (chain_keeps (codes "&&") And (λ c. cond_nesting Single c ≤ d) (λ c. cond_nesting Tight c ≤ d) part (λ c k. omega (arith, k, tight-single c)) (λ a b k m. omega (arith, k, m)))
+    (chain_keeps (codes "&&") And (λ c. cond_nesting Single c ≤ d) (λ c. cond_nesting Tight c ≤ d) part
+    (λ c k. omega (arith, k, tight-single c)) (λ a b k m. omega (arith, k, m)))
     (λ c k. omega (arith, k, loose-tight c)) (λ a b k m. omega (arith, k, m)) us c h
 
 module _ (L : Limits) (names : List (List ℕ)) where
-  none_inside : (s : Start) (us : List Counted) (c : Cond) → IsNegationRest L names Nowhere s us c → cond_nesting Single c ≤ 0
+  none_inside : (s : Start) (us : List Counted) (c : Cond) → IsNegationRest L names Nowhere s us c →
+      cond_nesting Single c ≤ 0
   none_inside Bang us c h = absurd h.first
   none_inside Bracket us c h = absurd h.first.first.first
   none_inside Ask us c h = subst (λ z. cond_nesting Single z ≤ 0) (sym h.is) (omega arith)
   none_inside (Compare f) us c h = subst (λ z. cond_nesting Single z ≤ 0) (sym h.second.second.second.is) (omega arith)
 
-  some_inside : (d : ℕ) → ((us : List Counted) (c : Cond) → IsNegation L names d us c → cond_nesting Single c ≤ d) → (s : Start) (us : List Counted) (c : Cond) → IsNegationRest L names (IsNegation L names d) s us c → cond_nesting Single c ≤ suc d
-  some_inside d part Bang us c h = let k = part h.front h.value h.first in subst (λ z. cond_nesting Single z ≤ suc d) (sym h.second.is) (omega (arith, k))
-  some_inside d part Bracket us c h = let k = condition_of_nests d part h.front h.value h.first in subst (λ z. cond_nesting Single z ≤ suc d) (sym h.second.second.is) (omega (arith, k, single-loose h.value))
+  some_inside : (d : ℕ) → ((us : List Counted) (c : Cond) → IsNegation L names d us c → cond_nesting Single c ≤ d) →
+      (s : Start) (us : List Counted) (c : Cond) → IsNegationRest L names (IsNegation L names d) s us c →
+      cond_nesting Single c ≤ suc d
+  some_inside d part Bang us c h = let k = part h.front h.value h.first in
+      subst (λ z. cond_nesting Single z ≤ suc d) (sym h.second.is) (omega (arith, k))
+  some_inside d part Bracket us c h = let k = condition_of_nests d part h.front h.value h.first in
+      subst (λ z. cond_nesting Single z ≤ suc d) (sym h.second.second.is) (omega (arith, k, single-loose h.value))
   some_inside d part Ask us c h = subst (λ z. cond_nesting Single z ≤ suc d) (sym h.is) (omega arith)
-  some_inside d part (Compare f) us c h = subst (λ z. cond_nesting Single z ≤ suc d) (sym h.second.second.second.is) (omega arith)
+  some_inside d part (Compare f) us c h = subst (λ z. cond_nesting Single z ≤ suc d) (sym h.second.second.second.is)
+      (omega arith)
 
   negation_nests : (d : ℕ) (us : List Counted) (c : Cond) → IsNegation L names d us c → cond_nesting Single c ≤ d
   unfolding IsNegation
@@ -73,34 +87,45 @@ module _ (L : Limits) (names : List (List ℕ)) where
   pub condition_nests : (d : ℕ) (us : List Counted) (c : Cond) → IsCondition L names d us c → cond_nesting Loose c ≤ d
   condition_nests d us c h = condition_of_nests d (negation_nests d) us c h
 
-and_then-nests : (d : ℕ) (xs : Block) (x : Stmt) → block_nesting xs ≤ d → stmt_nesting x ≤ d → block_nesting (and_then xs x) ≤ d
+and_then-nests : (d : ℕ) (xs : Block) (x : Stmt) → block_nesting xs ≤ d → stmt_nesting x ≤ d →
+    block_nesting (and_then xs x) ≤ d
 and_then-nests d tree.Empty x h k = omega (arith, k)
-and_then-nests d (tree.Then y ys) x h k = let h0 : block_nesting ys ≤ d = omega (arith, h) in omega (arith, h, and_then-nests d ys x h0 k)
+and_then-nests d (tree.Then y ys) x h k = let h0 : block_nesting ys ≤ d = omega (arith, h) in
+    omega (arith, h, and_then-nests d ys x h0 k)
 
 module _ (L : Limits) (rule : AssertRule) (names : List (List ℕ)) where
   abbrev Nests : ℕ → Block → Type 0
   Nests d b = block_nesting b ≤ d
 
   -- where no block may stand
-  none_in : (v : Verb) (us : List Counted) (x : Stmt) → IsStatementRest L rule names 0 false Nowhere v us x → stmt_nesting x ≤ 0
+  none_in : (v : Verb) (us : List Counted) (x : Stmt) → IsStatementRest L rule names 0 false Nowhere v us x →
+      stmt_nesting x ≤ 0
   none_in Havocs us x h = subst (λ z. stmt_nesting z ≤ 0) (sym h.second.second.is) (omega arith)
-  none_in Assumes us x h = let k = condition_nests L names 0 h.front h.value h.first in subst (λ z. stmt_nesting z ≤ 0) (sym h.second.second.is) (omega (arith, k))
+  none_in Assumes us x h = let k = condition_nests L names 0 h.front h.value h.first in
+      subst (λ z. stmt_nesting z ≤ 0) (sym h.second.second.is) (omega (arith, k))
   none_in Asserts us x h = subst (λ z. stmt_nesting z ≤ 0) (sym h.second.second.is) (omega arith)
   none_in Asks us x h = absurd h.second.first.second.first
   none_in Loops us x h = absurd h.second.first.second.first
   none_in Skips us x h = subst (λ z. stmt_nesting z ≤ 0) (sym h.second.is) (omega arith)
   none_in (Sets i) us x h = subst (λ z. stmt_nesting z ≤ 0) (sym h.second.second.second.is) (omega arith)
 
-  braces_nest : (d : ℕ) → ((us : List Counted) (b : Block) → AreStatements L rule names d us b → Nests d b) → (us : List Counted) (b : Block) → IsBlock true (AreStatements L rule names d) us b → Nests d b
-  braces_nest d part us b h = let m = h.second in subst (Nests d) (sym m.second.second.is) (part m.front m.value m.first)
+  braces_nest : (d : ℕ) → ((us : List Counted) (b : Block) → AreStatements L rule names d us b → Nests d b) →
+      (us : List Counted) (b : Block) → IsBlock true (AreStatements L rule names d) us b → Nests d b
+  braces_nest d part us b h = let m = h.second in subst (Nests d) (sym m.second.second.is)
+      (part m.front m.value m.first)
 
-  else_nests : (d : ℕ) → ((us : List Counted) (b : Block) → AreStatements L rule names d us b → Nests d b) → (us : List Counted) (b : Block) → Maybe skipped (goes_on (codes "else")) tree.Empty (λ u. IsBlock true (AreStatements L rule names d)) us b → Nests d b
+  else_nests : (d : ℕ) → ((us : List Counted) (b : Block) → AreStatements L rule names d us b → Nests d b) →
+      (us : List Counted) (b : Block) → Maybe skipped (goes_on (codes "else")) tree.Empty
+      (λ u. IsBlock true (AreStatements L rule names d)) us b → Nests d b
   else_nests d part us b (LeftOut none is) = subst (Nests d) (sym is) (omega arith)
   else_nests d part us b (Written t a vs e k h) = braces_nest d part vs b h
 
-  some_in : (d : ℕ) → ((us : List Counted) (b : Block) → AreStatements L rule names d us b → Nests d b) → (v : Verb) (us : List Counted) (x : Stmt) → IsStatementRest L rule names (suc d) true (AreStatements L rule names d) v us x → stmt_nesting x ≤ suc d
+  some_in : (d : ℕ) → ((us : List Counted) (b : Block) → AreStatements L rule names d us b → Nests d b) →
+      (v : Verb) (us : List Counted) (x : Stmt) → IsStatementRest L rule names (suc d) true
+      (AreStatements L rule names d) v us x → stmt_nesting x ≤ suc d
   some_in d part Havocs us x h = subst (λ z. stmt_nesting z ≤ suc d) (sym h.second.second.is) (omega arith)
-  some_in d part Assumes us x h = let k = condition_nests L names (suc d) h.front h.value h.first in subst (λ z. stmt_nesting z ≤ suc d) (sym h.second.second.is) (omega (arith, k))
+  some_in d part Assumes us x h = let k = condition_nests L names (suc d) h.front h.value h.first in
+      subst (λ z. stmt_nesting z ≤ suc d) (sym h.second.second.is) (omega (arith, k))
   some_in d part Asserts us x h = subst (λ z. stmt_nesting z ≤ suc d) (sym h.second.second.is) (omega arith)
   some_in d part Asks us x h =
       let k = condition_nests L names (suc d) h.front h.value h.first in
@@ -119,5 +144,9 @@ module _ (L : Limits) (rule : AssertRule) (names : List (List ℕ)) where
   -- a block that is spelled inside d signs is printed inside d at most
   pub block_nests : (d : ℕ) (us : List Counted) (b : Block) → AreStatements L rule names d us b → block_nesting b ≤ d
   unfolding AreStatements
-  block_nests zero us b h = many_keeps (Nests 0) (λ xs v ws ys q k. subst (Nests 0) (sym k.second.is) (and_then-nests 0 xs k.value q (none_in v k.front k.value k.first))) tree.Empty us b (omega arith) h
-  block_nests (suc d) us b h = many_keeps (Nests (suc d)) (λ xs v ws ys q k. subst (Nests (suc d)) (sym k.second.is) (and_then-nests (suc d) xs k.value q (some_in d (block_nests d) v k.front k.value k.first))) tree.Empty us b (omega arith) h
+  block_nests zero us b h = many_keeps (Nests 0) (λ xs v ws ys q k. subst (Nests 0) (sym k.second.is)
+      (and_then-nests 0 xs k.value q (none_in v k.front k.value k.first))) tree.Empty us b (omega arith) h
+  block_nests (suc d) us b h = many_keeps (Nests (suc d))
+      (λ xs v ws ys q k. subst (Nests (suc d)) (sym k.second.is)
+      (and_then-nests (suc d) xs k.value q (some_in d (block_nests d) v k.front k.value k.first))) tree.Empty us b
+      (omega arith) h

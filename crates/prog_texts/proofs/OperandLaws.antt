@@ -33,7 +33,8 @@ no_sum_led word e vs h = quiet_led way_of word e vs h
 pub operand_shape : (t : Counted) → begins_operand t ≡ true → Begins language (operand t) []
 operand_shape t = at (is_digits t) (says (codes "-") t) (is_variable t)
   where
-    at : (a b c : Bool) → (a || b || c) ≡ true → Begins language (cond a Nothing (cond b a_number (cond c (Perhaps sum) Never))) []
+    at : (a b c : Bool) → (a || b || c) ≡ true → Begins language
+        (cond a Nothing (cond b a_number (cond c (Perhaps sum) Never))) []
     at true b c e = nothing
     at false true c e = some_number
     at false false true e = some_perhaps
@@ -43,25 +44,37 @@ module _ (L : Limits) (rule : AssertRule) (names : List (List ℕ)) (d : ℕ) wh
   abbrev C : FaultKind → List Counted → Counted → Type 0
   C = IsCause L rule names d
 
-  sum_reads : (n i : ℕ) → Reads language Syntax n NoSum (maybe_past skipped way (moved i (pos 0)) (moved_at L i)) (Maybe skipped way (moved i (pos 0)) (λ w. Then (IsNumber L.number) (λ k. Empty (moved i (by w k))))) (Perhaps sum) (IsCause L rule names d)
+  sum_reads : (n i : ℕ) → Reads language Syntax n NoSum (maybe_past skipped way (moved i (pos 0)) (moved_at L i))
+      (Maybe skipped way (moved i (pos 0)) (λ w. Then (IsNumber L.number) (λ k. Empty (moved i (by w k)))))
+      (Perhaps sum) (IsCause L rule names d)
   unfolding moved_at
   sum_reads n i = Reads-perhaps language Syntax (moved i (pos 0)) no_sum_none (λ vs ends. ends)
       (λ t. choose_maybe language Syntax (says (codes "+") t)
-      (λ e. Begins_it Plus refl (Reads-behind language Syntax t (cause_grows L rule names d) (Reads-map language Syntax (λ k. moved i (by Plus k)) 0 (number_reads n L.number (IsCause L rule names d) (λ u front q r. (q, r)) no_sum_none))))
+      (λ e. Begins_it Plus refl (Reads-behind language Syntax t (cause_grows L rule names d)
+      (Reads-map language Syntax (λ k. moved i (by Plus k)) 0
+      (number_reads n L.number (IsCause L rule names d) (λ u front q r. (q, r)) no_sum_none))))
       (λ a. choose_maybe language Syntax (says (codes "-") t)
-      (λ e. Begins_it Minus refl (Reads-behind language Syntax t (cause_grows L rule names d) (Reads-map language Syntax (λ k. moved i (by Minus k)) 0 (number_reads n L.number (IsCause L rule names d) (λ u front q r. (q, r)) no_sum_none))))
+      (λ e. Begins_it Minus refl (Reads-behind language Syntax t (cause_grows L rule names d)
+      (Reads-map language Syntax (λ k. moved i (by Minus k)) 0
+      (number_reads n L.number (IsCause L rule names d) (λ u front q r. (q, r)) no_sum_none))))
       (λ b. Leaves_it refl refl)))
 
-  pub operand_fits : (n : ℕ) (t : Counted) → Fits language Syntax n NoSum (operand_rest L) (IsOperandRest L) (IsCause L rule names d) t (first L names t) (operand t)
+  pub operand_fits : (n : ℕ) (t : Counted) → Fits language Syntax n NoSum (operand_rest L) (IsOperandRest L)
+      (IsCause L rule names d) t (first L names t) (operand t)
   unfolding operand_rest
   operand_fits n t =
       choose language Syntax (is_digits t)
-      (λ e. sized_fits n L.number (IsCause L rule names d) Value t (λ front q. (e, q)) nothing (λ k. Reads-gives language Syntax n (constant (pos k)) no_sum_none))
+      (λ e. sized_fits n L.number (IsCause L rule names d) Value t (λ front q. (e, q)) nothing
+      (λ k. Reads-gives language Syntax n (constant (pos k)) no_sum_none))
       (λ a. choose language Syntax (says (codes "-") t)
-      (λ e. Lets Negative refl (Reads-behind language Syntax t (cause_grows L rule names d) (Reads-map language Syntax (λ k. constant (neg_ℤ (pos k))) 0 (number_reads n L.number (IsCause L rule names d) (λ u front q r. (q, r)) no_sum_none))))
+      (λ e. Lets Negative refl (Reads-behind language Syntax t (cause_grows L rule names d)
+      (Reads-map language Syntax (λ k. constant (neg_ℤ (pos k))) 0
+      (number_reads n L.number (IsCause L rule names d) (λ u front q r. (q, r)) no_sum_none))))
       (λ b. choose language Syntax (is_variable t)
-      (λ e. known_fits n names (IsCause L rule names d) Variable t (λ front q. (e, q)) some_perhaps (λ k. Reads-behind language Syntax t (cause_grows L rule names d) (sum_reads n k)))
+      (λ e. known_fits n names (IsCause L rule names d) Variable t (λ front q. (e, q)) some_perhaps
+      (λ k. Reads-behind language Syntax t (cause_grows L rule names d) (sum_reads n k)))
       (λ c. Refuses refl refl)))
 
-  pub operand_reads : (n : ℕ) → Reads language Syntax n NoSum (operand_at L names) (IsOperand L names) (Next operand) (IsCause L rule names d)
+  pub operand_reads : (n : ℕ) → Reads language Syntax n NoSum (operand_at L names) (IsOperand L names) (Next operand)
+      (IsCause L rule names d)
   operand_reads n = Reads-choice language Syntax (sample Digits (codes "0")) refl nothing no_sum_none (operand_fits n)

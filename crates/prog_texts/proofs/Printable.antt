@@ -1,4 +1,5 @@
 -- A program that is spelled may be printed, and what is printed is read back.
+-- Index: spelled_printable.
 use Rattle.std.proofs.Common.{◌≡◌, ℕ, zero, suc, Bool, true, false, cond, Option, Some, None, List, [], ◌∷◌, ◌++◌, length, codes, Result, Ok, Err, refl, sym, ap, subst, ◌∙◌, append_assoc, nat_le}
 use Rattle.std.proofs.lemmas.List.{append-nil}
 use Rattle.trop_text.specs.Name.{is_name}
@@ -32,8 +33,11 @@ record IsNewName (L : Limits) (before : List (List ℕ)) (a : List ℕ) : Type 0
   fresh : place_of a before ≡ None
   few : nat_le L.vars (length before) ≡ false
 
-new_name_is : (L : Limits) (before : List (List ℕ)) (x a : List ℕ) (b c : Bool) (o : Option ℕ) → is_name x ≡ b → nat_le L.vars (length before) ≡ c → place_of x before ≡ o → cond b (Some (cond c (Err TooManyVars) (undeclared o x))) None ≡ Some (Ok a) → IsNewName L before a
-new_name_is L before x a true false None p q r e = let k : x ≡ a = cc in subst (IsNewName L before) k (record { name = p; fresh = r; few = q })
+new_name_is : (L : Limits) (before : List (List ℕ)) (x a : List ℕ) (b c : Bool) (o : Option ℕ) → is_name x ≡ b →
+    nat_le L.vars (length before) ≡ c → place_of x before ≡ o →
+    cond b (Some (cond c (Err TooManyVars) (undeclared o x))) None ≡ Some (Ok a) → IsNewName L before a
+new_name_is L before x a true false None p q r e = let k : x ≡ a = cc in
+    subst (IsNewName L before) k (record { name = p; fresh = r; few = q })
 new_name_is L before x a true false (Some i) p q r e = absurd cc
 new_name_is L before x a true true o p q r e = absurd cc
 new_name_is L before x a false c o p q r e = absurd cc
@@ -44,12 +48,19 @@ record IsLonger (L : Limits) (before z : List (List ℕ)) : Type 0 where
   whole : z ≡ before ++ more
   may : MayFollow L before more
 
-names_may : (L : Limits) (before : List (List ℕ)) (us : List Counted) (z : List (List ℕ)) → AreNew L before us z → IsLonger L before z
+names_may : (L : Limits) (before : List (List ℕ)) (us : List Counted) (z : List (List ℕ)) → AreNew L before us z →
+    IsLonger L before z
 names_may L before us z (NoMore none is) = record { more = []; whole = is ∙ sym (append-nil before); may = tt }
 names_may L before us z (OneMore t a vs ws zs y e j whole h m) =
-    let n = new_name_is L before (text t) a (is_variable t) (nat_le L.vars (length before)) (place_of (text t) before) refl refl refl j in
+    let n = new_name_is L before (text t) a (is_variable t) (nat_le L.vars (length before))
+    (place_of (text t) before) refl refl refl j in
     let k = subst (λ q. IsLonger L q z) h.is (names_may L y zs z m) in
-    record { more = a ∷ k.more; whole = k.whole ∙ append_assoc before (a ∷ []) k.more; may = (n.name, n.fresh, n.few, k.may) }
+    record {
+      more = a ∷ k.more;
+      whole = k.whole ∙ append_assoc before (a ∷ []) k.more;
+      may =
+          (n.name, n.fresh, n.few, k.may);
+    }
 
 -- ---- sides
 
@@ -59,8 +70,10 @@ module _ (L : Limits) (rule : AssertRule) (names : List (List ℕ)) where
   IsAdmitted Greatest = is_against rule (codes "max") ≡ false
   IsAdmitted Least = is_against rule (codes "min") ≡ false
 
-  admitted : (a b p q : Bool) (v : Result First FaultKind) (word : SideWord) → (a ≡ true → p ≡ is_against rule (codes "max")) → (b ≡ true → q ≡ is_against rule (codes "min"))
-      → cond a (cond p (Err AssertMode) (Ok (Listed Greatest))) (cond b (cond q (Err AssertMode) (Ok (Listed Least))) (passed Single v)) ≡ Ok (Listed word) → IsAdmitted word
+  admitted : (a b p q : Bool) (v : Result First FaultKind) (word : SideWord) →
+      (a ≡ true → p ≡ is_against rule (codes "max")) → (b ≡ true → q ≡ is_against rule (codes "min"))
+      → cond a (cond p (Err AssertMode) (Ok (Listed Greatest)))
+      (cond b (cond q (Err AssertMode) (Ok (Listed Least))) (passed Single v)) ≡ Ok (Listed word) → IsAdmitted word
   admitted true b true q v word h k e = absurd cc
   admitted true b false q v word h k e = let same : Greatest ≡ word = cc in subst IsAdmitted same (sym (h refl))
   admitted false true p true v word h k e = absurd cc
@@ -69,7 +82,9 @@ module _ (L : Limits) (rule : AssertRule) (names : List (List ℕ)) where
   admitted false false p q (Err w) word h k e = absurd cc
 
   word_admitted : (t : Counted) (word : SideWord) → side_start L rule names t ≡ Ok (Listed word) → IsAdmitted word
-  word_admitted t word e = admitted (says (codes "max") t) (says (codes "min") t) (is_against rule (text t)) (is_against rule (text t)) (first L names t) word (λ k. ap (is_against rule) (text_is (codes "max") t k)) (λ k. ap (is_against rule) (text_is (codes "min") t k)) e
+  word_admitted t word e = admitted (says (codes "max") t) (says (codes "min") t) (is_against rule (text t))
+      (is_against rule (text t)) (first L names t) word (λ k. ap (is_against rule) (text_is (codes "max") t k))
+      (λ k. ap (is_against rule) (text_is (codes "min") t k)) e
 
   abbrev IsSome : List Term → Type 0
   IsSome [] = ⊥
@@ -80,7 +95,8 @@ module _ (L : Limits) (rule : AssertRule) (names : List (List ℕ)) where
   some_snoc (x ∷ xs) y = tt
 
   terms_some : (us : List Counted) (xs : List Term) → AreTerms L names us xs → IsSome xs
-  terms_some us xs h = many_keeps IsSome (λ ys a ws z q k. subst IsSome (sym k.second.is) (some_snoc ys k.value)) (h.value ∷ []) h.back xs tt h.second
+  terms_some us xs h = many_keeps IsSome (λ ys a ws z q k. subst IsSome (sym k.second.is) (some_snoc ys k.value))
+      (h.value ∷ []) h.back xs tt h.second
 
   listed_suits : (word : SideWord) (xs : List Term) → IsAdmitted word → IsSome xs → SuitsSide rule word xs
   listed_suits One xs h k = absurd h
@@ -92,9 +108,12 @@ module _ (L : Limits) (rule : AssertRule) (names : List (List ℕ)) where
   abbrev Suits : Side → Type 0
   Suits s = SuitsSide rule s.word s.terms
 
-  rest_suits : (x : SideStart) (t : Counted) (us : List Counted) (s : Side) → side_start L rule names t ≡ Ok x → IsSideRest L names x us s → Suits s
+  rest_suits : (x : SideStart) (t : Counted) (us : List Counted) (s : Side) → side_start L rule names t ≡ Ok x →
+      IsSideRest L names x us s → Suits s
   rest_suits (Single f) t us s e h = subst Suits (sym h.second.is) tt
-  rest_suits (Listed word) t us s e h = let m = h.second in subst Suits (sym m.second.second.is) (listed_suits word m.value (word_admitted t word e) (terms_some m.front m.value m.first))
+  rest_suits (Listed word) t us s e h = let m = h.second in
+      subst Suits (sym m.second.second.is) (listed_suits word m.value (word_admitted t word e)
+      (terms_some m.front m.value m.first))
 
   side_suits : (us : List Counted) (s : Side) → IsSide L rule names us s → Suits s
   side_suits us s h = rest_suits h.value h.first.token h.back s h.first.is h.second
@@ -103,7 +122,8 @@ module _ (L : Limits) (rule : AssertRule) (names : List (List ℕ)) where
   ClaimSuits c = Suits c.left × Suits c.right
 
   claim_suits : (us : List Counted) (c : Claim) → IsClaim L rule names us c → ClaimSuits c
-  claim_suits us c h = let m = h.second.second in subst ClaimSuits (sym m.second.is) (side_suits h.front h.value h.first, side_suits m.front m.value m.first)
+  claim_suits us c h = let m = h.second.second in subst ClaimSuits (sym m.second.is)
+      (side_suits h.front h.value h.first, side_suits m.front m.value m.first)
 
   -- ---- statements
 
@@ -117,32 +137,43 @@ module _ (L : Limits) (rule : AssertRule) (names : List (List ℕ)) where
   and_then-suits tree.Empty x h k = (k, tt)
   and_then-suits (tree.Then y ys) x h k = (h.0, and_then-suits ys x h.1 k)
 
-  module _ (d : ℕ) (room : Bool) (Inner : List Counted → Block → Type 0) (part : (us : List Counted) (b : Block) → Inner us b → Good b) where
+  module _ (d : ℕ) (room : Bool) (Inner : List Counted → Block → Type 0)
+      (part : (us : List Counted) (b : Block) → Inner us b → Good b) where
     braces_suit : (us : List Counted) (b : Block) → IsBlock room Inner us b → Good b
     braces_suit us b h = let m = h.second in subst Good (sym m.second.second.is) (part m.front m.value m.first)
 
-    else_suits : (us : List Counted) (b : Block) → Maybe skipped (goes_on (codes "else")) tree.Empty (λ u. IsBlock room Inner) us b → Good b
+    else_suits : (us : List Counted) (b : Block) →
+        Maybe skipped (goes_on (codes "else")) tree.Empty (λ u. IsBlock room Inner) us b → Good b
     else_suits us b (LeftOut none is) = subst Good (sym is) tt
     else_suits us b (Written t a vs e k h) = braces_suit vs b h
 
-    stmt_suits : (v : Verb) (us : List Counted) (x : Stmt) → IsStatementRest L rule names d room Inner v us x → GoodStmt x
+    stmt_suits : (v : Verb) (us : List Counted) (x : Stmt) → IsStatementRest L rule names d room Inner v us x →
+        GoodStmt x
     stmt_suits Havocs us x h = subst GoodStmt (sym h.second.second.is) tt
     stmt_suits Assumes us x h = subst GoodStmt (sym h.second.second.is) tt
     stmt_suits Asserts us x h = subst GoodStmt (sym h.second.second.is) (claim_suits h.front h.value h.first)
     stmt_suits Asks us x h =
         let m = h.second in
-        subst GoodStmt (sym m.second.second.is) (braces_suit m.front m.value m.first, else_suits m.second.front m.second.value m.second.first)
+        subst GoodStmt (sym m.second.second.is) (
+          braces_suit m.front m.value m.first,
+          else_suits m.second.front m.second.value m.second.first,
+        )
     stmt_suits Loops us x h = let m = h.second in subst GoodStmt (sym m.second.is) (braces_suit m.front m.value m.first)
     stmt_suits Skips us x h = subst GoodStmt (sym h.second.is) tt
     stmt_suits (Sets i) us x h = subst GoodStmt (sym h.second.second.second.is) tt
 
   block_suits : (d : ℕ) (us : List Counted) (b : Block) → AreStatements L rule names d us b → Good b
   unfolding AreStatements
-  block_suits zero us b h = many_keeps Good (λ xs v ws ys q k. subst Good (sym k.second.is) (and_then-suits xs k.value q (stmt_suits 0 false Nowhere (λ us b h. absurd h) v k.front k.value k.first))) tree.Empty us b tt h
-  block_suits (suc d) us b h = many_keeps Good (λ xs v ws ys q k. subst Good (sym k.second.is) (and_then-suits xs k.value q (stmt_suits (suc d) true (AreStatements L rule names d) (block_suits d) v k.front k.value k.first))) tree.Empty us b tt h
+  block_suits zero us b h = many_keeps Good (λ xs v ws ys q k. subst Good (sym k.second.is)
+      (and_then-suits xs k.value q (stmt_suits 0 false Nowhere (λ us b h. absurd h) v k.front k.value k.first)))
+      tree.Empty us b tt h
+  block_suits (suc d) us b h = many_keeps Good (λ xs v ws ys q k. subst Good (sym k.second.is)
+      (and_then-suits xs k.value q (stmt_suits (suc d) true (AreStatements L rule names d)
+      (block_suits d) v k.front k.value k.first))) tree.Empty us b tt h
 
 -- a program that is spelled under a rule may be printed under it
-pub spelled_printable : (L : Limits) (rule : AssertRule) (us : List Counted) (p : Named) → IsProgram L rule us p → IsPrintable L rule p
+pub spelled_printable : (L : Limits) (rule : AssertRule) (us : List Counted) (p : Named) → IsProgram L rule us p →
+    IsPrintable L rule p
 spelled_printable L rule us p h =
     let names = h.first.second in
     let n = names_may L [] names.front names.value names.first in

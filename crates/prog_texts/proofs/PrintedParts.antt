@@ -1,4 +1,6 @@
 -- Parts of printed texts: tokens that are what was printed, one part behind another, and operands.
+-- Index: other_word, not_of, Then_begun, Then_all, the_empty, a_one, Many_more, IsSplit, split, said_ink, said_then,
+-- IsBegun, operand_begun, operand_spelled.
 use Rattle.std.proofs.Common.{◌≡◌, ℕ, zero, suc, ℤ, pos, negsuc, Bool, true, false, Option, Some, List, [], ◌∷◌, ◌++◌, codes, Result, Ok, refl, sym, ap, subst, ◌∙◌, append_assoc, ◌||◌}
 use Rattle.std.specs.List.{list_all}
 use Rattle.std.specs.Str.{bytes_eq}
@@ -30,7 +32,8 @@ no_both : (b : Bool) → b ≡ true → b ≡ false → ⊥
 no_both b p r = let h = sym p ∙ r in cc
 
 -- a token of a kind that the word is not of
-pub not_of : (test : List ℕ → Bool) (word : List ℕ) (t : Counted) → test word ≡ false → test (text t) ≡ true → says word t ≡ false
+pub not_of : (test : List ℕ → Bool) (word : List ℕ) (t : Counted) → test word ≡ false → test (text t) ≡ true →
+    says word t ≡ false
 not_of test word t e k = at (says word t) refl
   where
     at : (b : Bool) → says word t ≡ b → says word t ≡ false
@@ -38,28 +41,45 @@ not_of test word t e k = at (says word t) refl
     at true q = absurd (no_both (test (text t)) k (ap test (text_is word t q) ∙ e))
 
 -- a token, and a text behind it
-pub Then_begun : {A B : Type 0} {P : Counted → A → Type 0} {S : A → List Counted → B → Type 0} (us : List Counted) (t : Counted) (vs : List Counted) (x : A) (y : B) → past skipped us ≡ t ∷ vs → P t x → S x vs y → Then (One skipped P) S us y
+pub Then_begun : {A B : Type 0} {P : Counted → A → Type 0} {S : A → List Counted → B → Type 0} (us : List Counted)
+    (t : Counted) (vs : List Counted) (x : A) (y : B) → past skipped us ≡ t ∷ vs → P t x → S x vs y →
+    Then (One skipped P) S us y
 Then_begun us t vs x y e h k =
     let g = gap skipped us in
-    record { front = g.front ++ t ∷ []; back = vs; value = x; whole = token_whole language us t vs e g ∙ sym (regroup language g.front t [] vs); first = record { token = t; whole = at_token language us t vs e g []; is = h }; second = k }
+    record {
+      front = g.front ++ t ∷ [];
+      back = vs;
+      value = x;
+      whole =
+          token_whole language us t vs e g ∙ sym (regroup language g.front t [] vs);
+      first =
+          record { token = t; whole = at_token language us t vs e g []; is = h };
+      second = k;
+    }
 
-pub Then_all : {A B : Type 0} {R : List Counted → A → Type 0} {S : A → List Counted → B → Type 0} (us : List Counted) (x : A) (y : B) → R us x → S x [] y → Then R S us y
+pub Then_all : {A B : Type 0} {R : List Counted → A → Type 0} {S : A → List Counted → B → Type 0} (us : List Counted)
+    (x : A) (y : B) → R us x → S x [] y → Then R S us y
 Then_all us x y h k = record { front = us; back = []; value = x; whole = sym (append-nil us); first = h; second = k }
 
 pub the_empty : {A : Type 0} (x : A) (us : List Counted) → us ≡ [] → Empty x us x
 the_empty x us e = record { none = e; is = refl }
 
-pub a_one : {A : Type 0} {P : Counted → A → Type 0} (us : List Counted) (t : Counted) (vs : List Counted) (x : A) → past skipped us ≡ t ∷ vs → vs ≡ [] → P t x → One skipped P us x
+pub a_one : {A : Type 0} {P : Counted → A → Type 0} (us : List Counted) (t : Counted) (vs : List Counted) (x : A) →
+    past skipped us ≡ t ∷ vs → vs ≡ [] → P t x → One skipped P us x
 a_one us t vs x e none h = record { token = t; whole = e ∙ ap (λ (z : List Counted). t ∷ z) none; is = h }
 
 -- one step more at the end
-pub Many_more : {A V : Type 0} {J : V → Counted → Option (Result A FaultKind)} {S : V → A → List Counted → V → Type 0} (x : V) (us : List Counted) (y : V) (ws : List Counted) (t : Counted) (a : A) (vs : List Counted) (z : V)
-    → Many skipped J S x us y → past skipped ws ≡ t ∷ vs → J y t ≡ Some (Ok a) → S y a vs z → Many skipped J S x (us ++ ws) z
+pub Many_more : {A V : Type 0} {J : V → Counted → Option (Result A FaultKind)} {S : V → A → List Counted → V → Type 0}
+    (x : V) (us : List Counted) (y : V) (ws : List Counted) (t : Counted) (a : A) (vs : List Counted) (z : V)
+    → Many skipped J S x us y → past skipped ws ≡ t ∷ vs → J y t ≡ Some (Ok a) → S y a vs z →
+    Many skipped J S x (us ++ ws) z
 Many_more {J = J} {S = S} x us y ws t a vs z (NoMore none is) e j h =
     subst (λ (q : List Counted). Many skipped J S x (q ++ ws) z) (sym none)
-    (OneMore t a vs vs [] z e (subst (λ q. J q t ≡ Some (Ok a)) is j) (sym (append-nil vs)) (subst (λ q. S q a vs z) is h) (NoMore refl refl))
+    (OneMore t a vs vs [] z e (subst (λ q. J q t ≡ Some (Ok a)) is j) (sym (append-nil vs))
+    (subst (λ q. S q a vs z) is h) (NoMore refl refl))
 Many_more x us y ws t a vs z (OneMore u b us' ws' zs z' e' j' whole h' m) e j h =
-    OneMore u b (us' ++ ws) ws' (zs ++ ws) z' (past-append skipped us u us' ws e') j' (ap (λ (q : List Counted). q ++ ws) whole ∙ append_assoc ws' zs ws) h' (Many_more z' zs y ws t a vs z m e j h)
+    OneMore u b (us' ++ ws) ws' (zs ++ ws) z' (past-append skipped us u us' ws e') j'
+    (ap (λ (q : List Counted). q ++ ws) whole ∙ append_assoc ws' zs ws) h' (Many_more z' zs y ws t a vs z m e j h)
 
 said_is : (word : List ℕ) (t : Counted) → says word t ≡ true → said word t ≡ Ok tt
 said_is word t e = rw e refl
@@ -75,27 +95,58 @@ module _ (L : Limits) (names : List (List ℕ)) where
 
   pub split : (is js : List Ink) (ts : List Counted) → AreInks L names (is ++ js) ts → IsSplit is js ts
   split [] js ts h = record { front = []; back = ts; whole = refl; first = refl; second = h }
-  split (Blank ∷ is) js ts h = let k = split is js ts h in record { front = k.front; back = k.back; whole = k.whole; first = k.first; second = k.second }
-  split (Feed ∷ is) js ts h = let k = split is js ts h in record { front = k.front; back = k.back; whole = k.whole; first = k.first; second = k.second }
+  split (Blank ∷ is) js ts h = let k = split is js ts h in
+      record { front = k.front; back = k.back; whole = k.whole; first = k.first; second = k.second }
+  split (Feed ∷ is) js ts h = let k = split is js ts h in
+      record { front = k.front; back = k.back; whole = k.whole; first = k.first; second = k.second }
   split (Says w ∷ is) js ts h =
       let k = split is js h.1 h.5 in
       let g = gap skipped ts in
-      record { front = g.front ++ h.0 ∷ k.front; back = k.back; whole = token_whole language ts h.0 h.1 h.2 g ∙ ap (λ (z : List Counted). g.front ++ h.0 ∷ z) k.whole ∙ sym (regroup language g.front h.0 k.front k.back); first = (h.0, k.front, at_token language ts h.0 h.1 h.2 g k.front, h.3, h.4, k.first); second = k.second }
+      record {
+        front = g.front ++ h.0 ∷ k.front;
+        back = k.back;
+        whole =
+            token_whole language ts h.0 h.1 h.2 g ∙ ap (λ (z : List Counted). g.front ++ h.0 ∷ z) k.whole
+            ∙ sym (regroup language g.front h.0 k.front k.back);
+        first =
+            (h.0, k.front, at_token language ts h.0 h.1 h.2 g k.front, h.3, h.4, k.first);
+        second = k.second;
+      }
   split (Name i ∷ is) js ts h =
       let k = split is js h.1 h.5 in
       let g = gap skipped ts in
-      record { front = g.front ++ h.0 ∷ k.front; back = k.back; whole = token_whole language ts h.0 h.1 h.2 g ∙ ap (λ (z : List Counted). g.front ++ h.0 ∷ z) k.whole ∙ sym (regroup language g.front h.0 k.front k.back); first = (h.0, k.front, at_token language ts h.0 h.1 h.2 g k.front, h.3, h.4, k.first); second = k.second }
+      record {
+        front = g.front ++ h.0 ∷ k.front;
+        back = k.back;
+        whole =
+            token_whole language ts h.0 h.1 h.2 g ∙ ap (λ (z : List Counted). g.front ++ h.0 ∷ z) k.whole
+            ∙ sym (regroup language g.front h.0 k.front k.back);
+        first =
+            (h.0, k.front, at_token language ts h.0 h.1 h.2 g k.front, h.3, h.4, k.first);
+        second = k.second;
+      }
   split (Number n ∷ is) js ts h =
       let k = split is js h.1 h.5 in
       let g = gap skipped ts in
-      record { front = g.front ++ h.0 ∷ k.front; back = k.back; whole = token_whole language ts h.0 h.1 h.2 g ∙ ap (λ (z : List Counted). g.front ++ h.0 ∷ z) k.whole ∙ sym (regroup language g.front h.0 k.front k.back); first = (h.0, k.front, at_token language ts h.0 h.1 h.2 g k.front, h.3, h.4, k.first); second = k.second }
+      record {
+        front = g.front ++ h.0 ∷ k.front;
+        back = k.back;
+        whole =
+            token_whole language ts h.0 h.1 h.2 g ∙ ap (λ (z : List Counted). g.front ++ h.0 ∷ z) k.whole
+            ∙ sym (regroup language g.front h.0 k.front k.back);
+        first =
+            (h.0, k.front, at_token language ts h.0 h.1 h.2 g k.front, h.3, h.4, k.first);
+        second = k.second;
+      }
 
   -- the word, and nothing behind it
   pub said_ink : (word : List ℕ) (us : List Counted) → AreInks L names (Says word ∷ []) us → IsSaid word us tt
   said_ink word us h = a_one us h.0 h.1 tt h.2 h.5 (said_is word h.0 h.4.1)
 
   -- the word, and a text behind it
-  pub said_then : {B : Type 0} {S : Unit {0} → List Counted → B → Type 0} (word : List ℕ) (is : List Ink) (us : List Counted) (y : B) → AreInks L names (Says word ∷ is) us → ((vs : List Counted) → AreInks L names is vs → S tt vs y) → Then (IsSaid word) S us y
+  pub said_then : {B : Type 0} {S : Unit {0} → List Counted → B → Type 0} (word : List ℕ) (is : List Ink)
+      (us : List Counted) (y : B) → AreInks L names (Says word ∷ is) us →
+      ((vs : List Counted) → AreInks L names is vs → S tt vs y) → Then (IsSaid word) S us y
   said_then word is us y h k = Then_begun us h.0 h.1 tt y h.2 (said_is word h.0 h.4.1) (k h.1 h.5)
 
   number_ink : (n : ℕ) (us : List Counted) → AreInks L names (Number n ∷ []) us → IsNumber L.number us n
@@ -110,7 +161,8 @@ module _ (L : Limits) (names : List (List ℕ)) where
     pub whole : past skipped us ≡ token ∷ behind
     pub within : IsWithin L token
     pub begins : begins_operand token ≡ true
-    pub other : (word : List ℕ) → is_name word ≡ false → list_all is_digit word ≡ false → bytes_eq (codes "-") word ≡ false → says word token ≡ false
+    pub other : (word : List ℕ) → is_name word ≡ false → list_all is_digit word ≡ false →
+        bytes_eq (codes "-") word ≡ false → says word token ≡ false
     pub start : First
     pub judged : first L names token ≡ Ok start
     pub rest : IsOperandRest L start behind x
@@ -124,7 +176,8 @@ module _ (L : Limits) (names : List (List ℕ)) where
   first_minus : (t : Counted) → is_digits t ≡ false → says (codes "-") t ≡ true → first L names t ≡ Ok Negative
   first_minus t e k = rw (e, k) refl
 
-  first_variable : (t : Counted) (i : ℕ) → is_digits t ≡ false → is_variable t ≡ true → known names t ≡ Ok i → first L names t ≡ Ok (Variable i)
+  first_variable : (t : Counted) (i : ℕ) → is_digits t ≡ false → is_variable t ≡ true → known names t ≡ Ok i →
+      first L names t ≡ Ok (Variable i)
   first_variable t i e k h = let m = not_of is_name (codes "-") t refl k in rw (e, m, k) (ap (passed Variable) h)
 
   or_one : (a b c : Bool) → a ≡ true → (a || b || c) ≡ true
@@ -163,7 +216,8 @@ module _ (L : Limits) (names : List (List ℕ)) where
     other = λ word a b c. other_word (codes "-") word h.0 h.4.1 c;
     start = Negative;
     judged = first_minus h.0 h.4.0 h.4.1;
-    rest = Then_all h.1 (suc n) (moved 0 (negsuc n)) (number_ink (suc n) h.1 h.5) (the_empty (moved 0 (negsuc n)) [] refl);
+    rest = Then_all h.1 (suc n) (moved 0 (negsuc n)) (number_ink (suc n) h.1 h.5)
+        (the_empty (moved 0 (negsuc n)) [] refl);
   }
 
   way_plus : (t : Counted) → says (codes "+") t ≡ true → way t ≡ Some (Ok Plus)
@@ -172,10 +226,14 @@ module _ (L : Limits) (names : List (List ℕ)) where
   way_minus : (t : Counted) → says (codes "-") t ≡ true → way t ≡ Some (Ok Minus)
   way_minus t e = let k = other_word (codes "-") (codes "+") t e refl in rw (k, e) refl
 
-  added : (i : ℕ) (n : ℤ) (us : List Counted) → AreInks L names (added_inks n) us → IsOperandRest L (Variable i) us (moved i n)
+  added : (i : ℕ) (n : ℤ) (us : List Counted) → AreInks L names (added_inks n) us →
+      IsOperandRest L (Variable i) us (moved i n)
   added i (pos zero) us h = LeftOut h refl
-  added i (pos (suc n)) us h = Written h.0 Plus h.1 h.2 (way_plus h.0 h.4.1) (Then_all h.1 (suc n) (moved i (pos (suc n))) (number_ink (suc n) h.1 h.5) (the_empty (moved i (pos (suc n))) [] refl))
-  added i (negsuc n) us h = Written h.0 Minus h.1 h.2 (way_minus h.0 h.4.1) (Then_all h.1 (suc n) (moved i (negsuc n)) (number_ink (suc n) h.1 h.5) (the_empty (moved i (negsuc n)) [] refl))
+  added i (pos (suc n)) us h = Written h.0 Plus h.1 h.2 (way_plus h.0 h.4.1)
+      (Then_all h.1 (suc n) (moved i (pos (suc n))) (number_ink (suc n) h.1 h.5)
+      (the_empty (moved i (pos (suc n))) [] refl))
+  added i (negsuc n) us h = Written h.0 Minus h.1 h.2 (way_minus h.0 h.4.1)
+      (Then_all h.1 (suc n) (moved i (negsuc n)) (number_ink (suc n) h.1 h.5) (the_empty (moved i (negsuc n)) [] refl))
 
   pub operand_begun : (i : ℕ) (n : ℤ) (us : List Counted) → AreInks L names (moved_inks i n) us → IsBegun (moved i n) us
   operand_begun zero n us h = constant_begun n us h
@@ -191,5 +249,7 @@ module _ (L : Limits) (names : List (List ℕ)) where
     rest = added (suc place) n h.1 h.5;
   }
 
-  pub operand_spelled : (t : Term) (us : List Counted) → AreInks L names (moved_inks t.coord t.add) us → IsOperand L names us t
-  operand_spelled t us h = let k = operand_begun t.coord t.add us h in Then_begun us k.token k.behind k.start t k.whole k.judged k.rest
+  pub operand_spelled : (t : Term) (us : List Counted) → AreInks L names (moved_inks t.coord t.add) us →
+      IsOperand L names us t
+  operand_spelled t us h = let k = operand_begun t.coord t.add us h in
+      Then_begun us k.token k.behind k.start t k.whole k.judged k.rest

@@ -22,19 +22,29 @@ use Rattle.prog_texts.proofs.PrintedStatements.{block_spelled}
 use Rattle.prog_texts.proofs.ProgramLaws.{IsOver, program_reads}
 
 module _ (L : Limits) (rule : AssertRule) (names : List (List ℕ)) where
-  is_new : (before : List (List ℕ)) (x : List ℕ) (t : Counted) → says x t ≡ true → is_name x ≡ true → place_of x before ≡ None → nat_le L.vars (length before) ≡ false → new_name L before t ≡ Some (Ok x)
-  is_new before x t e name fresh few = ap at (text_is x t e) ∙ ap (λ b. cond b (Some (cond (nat_le L.vars (length before)) (Err TooManyVars) (undeclared (place_of x before) x))) None) name ∙ ap (λ b. Some (cond b (Err TooManyVars) (undeclared (place_of x before) x))) few ∙ ap (λ o. Some (undeclared o x)) fresh
+  is_new : (before : List (List ℕ)) (x : List ℕ) (t : Counted) → says x t ≡ true → is_name x ≡ true →
+      place_of x before ≡ None → nat_le L.vars (length before) ≡ false → new_name L before t ≡ Some (Ok x)
+  is_new before x t e name fresh few = ap at (text_is x t e)
+      ∙ ap (λ b. cond b (Some (cond (nat_le L.vars (length before)) (Err TooManyVars)
+      (undeclared (place_of x before) x))) None) name
+      ∙ ap (λ b. Some (cond b (Err TooManyVars) (undeclared (place_of x before) x))) few
+      ∙ ap (λ o. Some (undeclared o x)) fresh
     where
       at : List ℕ → Option (Result (List ℕ) FaultKind)
-      at z = cond (is_name z) (Some (cond (nat_le L.vars (length before)) (Err TooManyVars) (undeclared (place_of z before) z))) None
+      at z = cond (is_name z) (Some (cond (nat_le L.vars (length before)) (Err TooManyVars)
+          (undeclared (place_of z before) z))) None
 
-  names_spelled : (before xs : List (List ℕ)) (us : List Counted) → MayFollow L before xs → AreInks L names (names_inks xs) us → AreNew L before us (before ++ xs)
+  names_spelled : (before xs : List (List ℕ)) (us : List Counted) → MayFollow L before xs →
+      AreInks L names (names_inks xs) us → AreNew L before us (before ++ xs)
   names_spelled before [] us m h = NoMore h (append-nil before)
   names_spelled before (x ∷ xs) us m h =
-      OneMore h.0 x h.1 [] h.1 (before ++ x ∷ []) h.2 (is_new before x h.0 h.4.1 m.0 m.1 m.2) refl (the_empty (before ++ x ∷ []) [] refl)
-      (subst (λ z. AreNew L (before ++ x ∷ []) h.1 z) (append_assoc before (x ∷ []) xs) (names_spelled (before ++ x ∷ []) xs h.1 m.3 h.5))
+      OneMore h.0 x h.1 [] h.1 (before ++ x ∷ []) h.2 (is_new before x h.0 h.4.1 m.0 m.1 m.2) refl
+      (the_empty (before ++ x ∷ []) [] refl)
+      (subst (λ z. AreNew L (before ++ x ∷ []) h.1 z) (append_assoc before (x ∷ []) xs)
+      (names_spelled (before ++ x ∷ []) xs h.1 m.3 h.5))
 
--- a program that may be printed under the rule: its names are distinct, its sides suit, and it is nested no deeper than may be
+-- a program that may be printed under the rule: its names are distinct, its sides suit, and it is nested no deeper than
+-- may be
 pub record IsPrintable (L : Limits) (rule : AssertRule) (p : Named) : Type 0 where
   pub names : MayFollow L [] p.names
   pub sides : SuitsBlock rule p.body
@@ -43,17 +53,21 @@ pub record IsPrintable (L : Limits) (rule : AssertRule) (p : Named) : Type 0 whe
 module _ (L : Limits) (rule : AssertRule) (p : Named) (may : IsPrintable L rule p) where
   pub program_spelled : (us : List Counted) → AreInks L p.names (program_inks p) us → IsProgram L rule us p
   program_spelled us h =
-      let k = split L p.names (Says (codes "vars") ∷ (names_inks p.names ++ Says (codes ";") ∷ [])) (Feed ∷ block_inks 0 p.body) us (subst (λ z. AreInks L p.names (Says (codes "vars") ∷ z) us) (sym (append_assoc (names_inks p.names) (Says (codes ";") ∷ []) (Feed ∷ block_inks 0 p.body))) h) in
+      let k = split L p.names (Says (codes "vars") ∷ (names_inks p.names ++ Says (codes ";") ∷ []))
+      (Feed ∷ block_inks 0 p.body) us (subst (λ z. AreInks L p.names (Says (codes "vars") ∷ z) us)
+      (sym (append_assoc (names_inks p.names) (Says (codes ";") ∷ []) (Feed ∷ block_inks 0 p.body))) h) in
       record {
         front = k.front;
         back = k.back;
         value = p.names;
         whole = k.whole;
         first = declared k.front k.first;
-        second = Then_all k.back p.body p (block_spelled L rule p.names p.body 0 L.depth k.back may.sides may.depth k.second) (the_empty p [] refl);
+        second = Then_all k.back p.body p (block_spelled L rule p.names p.body 0 L.depth k.back may.sides may.depth
+            k.second) (the_empty p [] refl);
       }
     where
-      declared : (us : List Counted) → AreInks L p.names (Says (codes "vars") ∷ (names_inks p.names ++ Says (codes ";") ∷ [])) us → IsDeclaration L us p.names
+      declared : (us : List Counted) → AreInks L p.names
+          (Says (codes "vars") ∷ (names_inks p.names ++ Says (codes ";") ∷ [])) us → IsDeclaration L us p.names
       declared us h = said_then L p.names (codes "vars") (names_inks p.names ++ Says (codes ";") ∷ []) us p.names h
           (λ vs q. let k = split L p.names (names_inks p.names) (Says (codes ";") ∷ []) vs q in
           record {
@@ -62,9 +76,12 @@ module _ (L : Limits) (rule : AssertRule) (p : Named) (may : IsPrintable L rule 
             value = p.names;
             whole = k.whole;
             first = names_spelled L rule p.names [] p.names k.front may.names k.first;
-            second = Then_all k.back tt p.names (said_ink L p.names (codes ";") k.back k.second) (the_empty p.names [] refl);
+            second = Then_all k.back tt p.names (said_ink L p.names (codes ";") k.back k.second)
+                (the_empty p.names [] refl);
           })
 
   -- what is printed is read back, before anything that does not go on with it
-  pub printed_back : (us rest : List Counted) → AreInks L p.names (program_inks p) us → IsOver rest → program_at L rule (us ++ rest) ≡ Ok (p, rest)
-  printed_back us rest h over = (program_reads L rule (length (us ++ rest))).texts.reads us rest p (omega arith) (program_spelled us h) over
+  pub printed_back : (us rest : List Counted) → AreInks L p.names (program_inks p) us → IsOver rest →
+      program_at L rule (us ++ rest) ≡ Ok (p, rest)
+  printed_back us rest h over = (program_reads L rule (length (us ++ rest))).texts.reads us rest p (omega arith)
+      (program_spelled us h) over

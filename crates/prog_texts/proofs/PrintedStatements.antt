@@ -1,4 +1,5 @@
 -- Printed claims and statements are spelled as they were, inside as many signs as they are printed with.
+-- Index: side_spelled, claim_spelled, block_spelled.
 use Rattle.std.proofs.Common.{◌≡◌, ◌≤◌, ℕ, zero, suc, Bool, true, false, cond, Some, List, [], ◌∷◌, ◌++◌, codes, Result, Ok, Err, refl, sym, ap, subst, ◌∙◌, append_assoc, arith}
 use Rattle.std.proofs.lemmas.List.{append-nil}
 use Rattle.trop_text.specs.Name.{is_name}
@@ -51,8 +52,11 @@ takes : {A : Type 0} (a : Bool) (x w : A) → a ≡ true → cond a x w ≡ x
 takes true x w e = refl
 takes false x w e = absurd cc
 
-Then_back : {A : Type 0} {R : List Counted → A → Type 0} (us : List Counted) (y : A) → Then R (λ x. Empty x) us y → R us y
-Then_back {R = R} us y h = subst (λ z. R z y) (sym (h.whole ∙ ap (λ (z : List Counted). h.front ++ z) h.second.none ∙ append-nil h.front)) (subst (λ z. R h.front z) (sym h.second.is) h.first)
+Then_back : {A : Type 0} {R : List Counted → A → Type 0} (us : List Counted) (y : A) → Then R (λ x. Empty x) us y →
+    R us y
+Then_back {R = R} us y h = subst (λ z. R z y) (sym
+    (h.whole ∙ ap (λ (z : List Counted). h.front ++ z) h.second.none ∙ append-nil h.front))
+    (subst (λ z. R h.front z) (sym h.second.is) h.first)
 
 -- a block and more of them
 abbrev joined : Block → Block → Block
@@ -70,49 +74,92 @@ joined-none (tree.Then y ys) = joined-first y tree.Empty ys ∙ ap (λ z. tree.T
 module _ (L : Limits) (rule : AssertRule) (names : List (List ℕ)) where
   -- ---- claims
 
-  more_spelled : (xs ts : List Term) (us : List Counted) → AreInks L names (more_inks ts) us → Many skipped (λ (xs : List Term). goes_on (codes ",")) (λ xs u. Then (IsOperand L names) (λ y. Empty (xs ++ y ∷ []))) xs us (xs ++ ts)
+  more_spelled : (xs ts : List Term) (us : List Counted) → AreInks L names (more_inks ts) us →
+      Many skipped (λ (xs : List Term). goes_on (codes ","))
+      (λ xs u. Then (IsOperand L names) (λ y. Empty (xs ++ y ∷ []))) xs us (xs ++ ts)
   more_spelled xs [] us h = NoMore h (append-nil xs)
   more_spelled xs (t ∷ ts) us h =
       let k = split L names (term_inks t) (more_inks ts) h.1 h.5 in
-      OneMore h.0 tt h.1 k.front k.back (xs ++ t ∷ []) h.2 (goes (codes ",") h.0 h.4.1) k.whole (Then_all k.front t (xs ++ t ∷ []) (operand_spelled L names t k.front k.first) (the_empty (xs ++ t ∷ []) [] refl))
-      (subst (λ z. Many skipped (λ (xs : List Term). goes_on (codes ",")) (λ xs u. Then (IsOperand L names) (λ y. Empty (xs ++ y ∷ []))) (xs ++ t ∷ []) k.back z) (append_assoc xs (t ∷ []) ts) (more_spelled (xs ++ t ∷ []) ts k.back k.second))
+      OneMore h.0 tt h.1 k.front k.back (xs ++ t ∷ []) h.2 (goes (codes ",") h.0 h.4.1) k.whole
+      (Then_all k.front t (xs ++ t ∷ []) (operand_spelled L names t k.front k.first)
+      (the_empty (xs ++ t ∷ []) [] refl))
+      (subst (λ z. Many skipped (λ (xs : List Term). goes_on (codes ","))
+      (λ xs u. Then (IsOperand L names) (λ y. Empty (xs ++ y ∷ []))) (xs ++ t ∷ []) k.back z)
+      (append_assoc xs (t ∷ []) ts) (more_spelled (xs ++ t ∷ []) ts k.back k.second))
 
-  terms_spelled : (t : Term) (ts : List Term) (us : List Counted) → AreInks L names (terms_inks (t ∷ ts)) us → AreTerms L names us (t ∷ ts)
+  terms_spelled : (t : Term) (ts : List Term) (us : List Counted) → AreInks L names (terms_inks (t ∷ ts)) us →
+      AreTerms L names us (t ∷ ts)
   terms_spelled t ts us h =
       let k = split L names (term_inks t) (more_inks ts) us h in
-      record { front = k.front; back = k.back; value = t; whole = k.whole; first = operand_spelled L names t k.front k.first; second = more_spelled (t ∷ []) ts k.back k.second }
+      record {
+        front = k.front;
+        back = k.back;
+        value = t;
+        whole = k.whole;
+        first =
+            operand_spelled L names t k.front k.first;
+        second = more_spelled (t ∷ []) ts k.back k.second;
+      }
 
-  listed_spelled : (word : SideWord) (t : Term) (ts : List Term) (us : List Counted) → AreInks L names (Says (codes "(") ∷ (terms_inks (t ∷ ts) ++ Says (codes ")") ∷ [])) us → IsSideRest L names (Listed word) us (side_of word (t ∷ ts))
-  listed_spelled word t ts us h = said_then L names (codes "(") (terms_inks (t ∷ ts) ++ Says (codes ")") ∷ []) us (side_of word (t ∷ ts)) h
+  listed_spelled : (word : SideWord) (t : Term) (ts : List Term) (us : List Counted) →
+      AreInks L names (Says (codes "(") ∷ (terms_inks (t ∷ ts) ++ Says (codes ")") ∷ [])) us →
+      IsSideRest L names (Listed word) us (side_of word (t ∷ ts))
+  listed_spelled word t ts us h = said_then L names (codes "(") (terms_inks (t ∷ ts) ++ Says (codes ")") ∷ []) us
+      (side_of word (t ∷ ts)) h
       (λ vs q. let k = split L names (terms_inks (t ∷ ts)) (Says (codes ")") ∷ []) vs q in
-      record { front = k.front; back = k.back; value = t ∷ ts; whole = k.whole; first = terms_spelled t ts k.front k.first; second = Then_all k.back tt (side_of word (t ∷ ts)) (said_ink L names (codes ")") k.back k.second) (the_empty (side_of word (t ∷ ts)) [] refl) })
+      record {
+        front = k.front;
+        back = k.back;
+        value = t ∷ ts;
+        whole = k.whole;
+        first =
+            terms_spelled t ts k.front k.first;
+        second =
+            Then_all k.back tt (side_of word (t ∷ ts)) (said_ink L names (codes ")") k.back k.second)
+            (the_empty (side_of word (t ∷ ts)) [] refl);
+      })
 
-  start_max : (t : Counted) → says (codes "max") t ≡ true → is_against rule (codes "max") ≡ false → side_start L rule names t ≡ Ok (Listed Greatest)
-  start_max t e k = takes (says (codes "max") t) _ _ e ∙ ap (λ z. cond (is_against rule z) (Err AssertMode) (Ok (Listed Greatest))) (text_is (codes "max") t e) ∙ skips (is_against rule (codes "max")) _ _ k
+  start_max : (t : Counted) → says (codes "max") t ≡ true → is_against rule (codes "max") ≡ false →
+      side_start L rule names t ≡ Ok (Listed Greatest)
+  start_max t e k = takes (says (codes "max") t) _ _ e
+      ∙ ap (λ z. cond (is_against rule z) (Err AssertMode) (Ok (Listed Greatest))) (text_is (codes "max") t e)
+      ∙ skips (is_against rule (codes "max")) _ _ k
 
-  start_min : (t : Counted) → says (codes "min") t ≡ true → is_against rule (codes "min") ≡ false → side_start L rule names t ≡ Ok (Listed Least)
+  start_min : (t : Counted) → says (codes "min") t ≡ true → is_against rule (codes "min") ≡ false →
+      side_start L rule names t ≡ Ok (Listed Least)
   start_min t e k =
-      skips (says (codes "max") t) _ _ (other_word (codes "min") (codes "max") t e refl) ∙ takes (says (codes "min") t) _ _ e
-      ∙ ap (λ z. cond (is_against rule z) (Err AssertMode) (Ok (Listed Least))) (text_is (codes "min") t e) ∙ skips (is_against rule (codes "min")) _ _ k
+      skips (says (codes "max") t) _ _ (other_word (codes "min") (codes "max") t e refl)
+      ∙ takes (says (codes "min") t) _ _ e
+      ∙ ap (λ z. cond (is_against rule z) (Err AssertMode) (Ok (Listed Least))) (text_is (codes "min") t e)
+      ∙ skips (is_against rule (codes "min")) _ _ k
 
-  start_single : (t : Counted) (f : First) → says (codes "max") t ≡ false → says (codes "min") t ≡ false → first L names t ≡ Ok f → side_start L rule names t ≡ Ok (Single f)
-  start_single t f e k h = skips (says (codes "max") t) _ _ e ∙ skips (says (codes "min") t) _ _ k ∙ ap (passed Single) h
+  start_single : (t : Counted) (f : First) → says (codes "max") t ≡ false → says (codes "min") t ≡ false →
+      first L names t ≡ Ok f → side_start L rule names t ≡ Ok (Single f)
+  start_single t f e k h = skips (says (codes "max") t) _ _ e ∙ skips (says (codes "min") t) _ _ k
+      ∙ ap (passed Single) h
 
-  pub side_spelled : (word : SideWord) (ts : List Term) (us : List Counted) → SuitsSide rule word ts → AreInks L names (side_inks word ts) us → IsSide L rule names us (side_of word ts)
+  pub side_spelled : (word : SideWord) (ts : List Term) (us : List Counted) → SuitsSide rule word ts →
+      AreInks L names (side_inks word ts) us → IsSide L rule names us (side_of word ts)
   side_spelled tree.One [] us s h = absurd s
   side_spelled tree.One (t ∷ u ∷ ts) us s h = absurd s
   side_spelled Greatest [] us s h = absurd s
   side_spelled Least [] us s h = absurd s
   side_spelled tree.One (t ∷ []) us s h =
       let o = operand_begun L names t.coord t.add us (subst (λ z. AreInks L names z us) (append-nil (term_inks t)) h) in
-      Then_begun us o.token o.behind (Single o.start) (side_of tree.One (t ∷ [])) o.whole (start_single o.token o.start (o.other (codes "max") refl refl refl) (o.other (codes "min") refl refl refl) o.judged)
+      Then_begun us o.token o.behind (Single o.start) (side_of tree.One (t ∷ [])) o.whole
+      (start_single o.token o.start (o.other (codes "max") refl refl refl)
+      (o.other (codes "min") refl refl refl) o.judged)
       (Then_all o.behind t (side_of tree.One (t ∷ [])) o.rest (the_empty (side_of tree.One (t ∷ [])) [] refl))
-  side_spelled Greatest (t ∷ ts) us s h = Then_begun us h.0 h.1 (Listed Greatest) (side_of Greatest (t ∷ ts)) h.2 (start_max h.0 h.4.1 s) (listed_spelled Greatest t ts h.1 h.5)
-  side_spelled Least (t ∷ ts) us s h = Then_begun us h.0 h.1 (Listed Least) (side_of Least (t ∷ ts)) h.2 (start_min h.0 h.4.1 s) (listed_spelled Least t ts h.1 h.5)
+  side_spelled Greatest (t ∷ ts) us s h = Then_begun us h.0 h.1 (Listed Greatest) (side_of Greatest (t ∷ ts)) h.2
+      (start_max h.0 h.4.1 s) (listed_spelled Greatest t ts h.1 h.5)
+  side_spelled Least (t ∷ ts) us s h = Then_begun us h.0 h.1 (Listed Least) (side_of Least (t ∷ ts)) h.2
+      (start_min h.0 h.4.1 s) (listed_spelled Least t ts h.1 h.5)
 
-  pub claim_spelled : (c : Claim) (us : List Counted) → SuitsSide rule c.left.word c.left.terms → SuitsSide rule c.right.word c.right.terms → AreInks L names (claim_inks c) us → IsClaim L rule names us c
+  pub claim_spelled : (c : Claim) (us : List Counted) → SuitsSide rule c.left.word c.left.terms →
+      SuitsSide rule c.right.word c.right.terms → AreInks L names (claim_inks c) us → IsClaim L rule names us c
   claim_spelled c us s q h =
-      let k = split L names (side_inks c.left.word c.left.terms) (Blank ∷ Says (rel_text c.rel) ∷ Blank ∷ side_inks c.right.word c.right.terms) us h in
+      let k = split L names (side_inks c.left.word c.left.terms)
+      (Blank ∷ Says (rel_text c.rel) ∷ Blank ∷ side_inks c.right.word c.right.terms) us h in
       let m = k.second in
       record {
         front = k.front;
@@ -120,7 +167,8 @@ module _ (L : Limits) (rule : AssertRule) (names : List (List ℕ)) where
         value = c.left;
         whole = k.whole;
         first = side_spelled c.left.word c.left.terms k.front s k.first;
-        second = Then_begun k.back m.0 m.1 c.rel c m.2 (wanted_rel c.rel m.0 m.4.1) (Then_all m.1 c.right c (side_spelled c.right.word c.right.terms m.1 q m.5) (the_empty c [] refl));
+        second = Then_begun k.back m.0 m.1 c.rel c m.2 (wanted_rel c.rel m.0 m.4.1)
+            (Then_all m.1 c.right c (side_spelled c.right.word c.right.terms m.1 q m.5) (the_empty c [] refl));
       }
 
   -- ---- statements
@@ -148,53 +196,86 @@ module _ (L : Limits) (rule : AssertRule) (names : List (List ℕ)) where
   counted : (t : Counted) (v : Result Verb FaultKind) → is_one_too_many L t ≡ false → one_more L t v ≡ Some v
   counted t v e = ap (λ z. Some (cond z (Err TooManyStatements) v)) e
 
-  is_havoc : (t : Counted) → says (codes "havoc") t ≡ true → is_one_too_many L t ≡ false → verb L names t ≡ Some (Ok Havocs)
+  is_havoc : (t : Counted) → says (codes "havoc") t ≡ true → is_one_too_many L t ≡ false →
+      verb L names t ≡ Some (Ok Havocs)
   is_havoc t e k = takes (says (codes "havoc") t) _ _ e ∙ counted t (Ok Havocs) k
 
-  is_assume : (t : Counted) → says (codes "assume") t ≡ true → is_one_too_many L t ≡ false → verb L names t ≡ Some (Ok Assumes)
-  is_assume t e k = skips (says (codes "havoc") t) _ _ (other_word (codes "assume") (codes "havoc") t e refl) ∙ takes (says (codes "assume") t) _ _ e ∙ counted t (Ok Assumes) k
+  is_assume : (t : Counted) → says (codes "assume") t ≡ true → is_one_too_many L t ≡ false →
+      verb L names t ≡ Some (Ok Assumes)
+  is_assume t e k = skips (says (codes "havoc") t) _ _ (other_word (codes "assume") (codes "havoc") t e refl)
+      ∙ takes (says (codes "assume") t) _ _ e ∙ counted t (Ok Assumes) k
 
-  is_assert : (t : Counted) → says (codes "assert") t ≡ true → is_one_too_many L t ≡ false → verb L names t ≡ Some (Ok Asserts)
+  is_assert : (t : Counted) → says (codes "assert") t ≡ true → is_one_too_many L t ≡ false →
+      verb L names t ≡ Some (Ok Asserts)
   is_assert t e k =
-      skips (says (codes "havoc") t) _ _ (other_word (codes "assert") (codes "havoc") t e refl) ∙ skips (says (codes "assume") t) _ _ (other_word (codes "assert") (codes "assume") t e refl)
+      skips (says (codes "havoc") t) _ _ (other_word (codes "assert") (codes "havoc") t e refl)
+      ∙ skips (says (codes "assume") t) _ _ (other_word (codes "assert") (codes "assume") t e refl)
       ∙ takes (says (codes "assert") t) _ _ e ∙ counted t (Ok Asserts) k
 
   is_if : (t : Counted) → says (codes "if") t ≡ true → is_one_too_many L t ≡ false → verb L names t ≡ Some (Ok Asks)
   is_if t e k =
-      skips (says (codes "havoc") t) _ _ (other_word (codes "if") (codes "havoc") t e refl) ∙ skips (says (codes "assume") t) _ _ (other_word (codes "if") (codes "assume") t e refl)
-      ∙ skips (says (codes "assert") t) _ _ (other_word (codes "if") (codes "assert") t e refl) ∙ takes (says (codes "if") t) _ _ e ∙ counted t (Ok Asks) k
+      skips (says (codes "havoc") t) _ _ (other_word (codes "if") (codes "havoc") t e refl)
+      ∙ skips (says (codes "assume") t) _ _ (other_word (codes "if") (codes "assume") t e refl)
+      ∙ skips (says (codes "assert") t) _ _ (other_word (codes "if") (codes "assert") t e refl)
+      ∙ takes (says (codes "if") t) _ _ e ∙ counted t (Ok Asks) k
 
-  is_while : (t : Counted) → says (codes "while") t ≡ true → is_one_too_many L t ≡ false → verb L names t ≡ Some (Ok Loops)
+  is_while : (t : Counted) → says (codes "while") t ≡ true → is_one_too_many L t ≡ false →
+      verb L names t ≡ Some (Ok Loops)
   is_while t e k =
-      skips (says (codes "havoc") t) _ _ (other_word (codes "while") (codes "havoc") t e refl) ∙ skips (says (codes "assume") t) _ _ (other_word (codes "while") (codes "assume") t e refl)
-      ∙ skips (says (codes "assert") t) _ _ (other_word (codes "while") (codes "assert") t e refl) ∙ skips (says (codes "if") t) _ _ (other_word (codes "while") (codes "if") t e refl)
+      skips (says (codes "havoc") t) _ _ (other_word (codes "while") (codes "havoc") t e refl)
+      ∙ skips (says (codes "assume") t) _ _ (other_word (codes "while") (codes "assume") t e refl)
+      ∙ skips (says (codes "assert") t) _ _ (other_word (codes "while") (codes "assert") t e refl)
+      ∙ skips (says (codes "if") t) _ _ (other_word (codes "while") (codes "if") t e refl)
       ∙ takes (says (codes "while") t) _ _ e ∙ counted t (Ok Loops) k
 
-  is_skip : (t : Counted) → says (codes "skip") t ≡ true → is_one_too_many L t ≡ false → verb L names t ≡ Some (Ok Skips)
+  is_skip : (t : Counted) → says (codes "skip") t ≡ true → is_one_too_many L t ≡ false →
+      verb L names t ≡ Some (Ok Skips)
   is_skip t e k =
-      skips (says (codes "havoc") t) _ _ (other_word (codes "skip") (codes "havoc") t e refl) ∙ skips (says (codes "assume") t) _ _ (other_word (codes "skip") (codes "assume") t e refl)
-      ∙ skips (says (codes "assert") t) _ _ (other_word (codes "skip") (codes "assert") t e refl) ∙ skips (says (codes "if") t) _ _ (other_word (codes "skip") (codes "if") t e refl)
-      ∙ skips (says (codes "while") t) _ _ (other_word (codes "skip") (codes "while") t e refl) ∙ takes (says (codes "skip") t) _ _ e ∙ counted t (Ok Skips) k
+      skips (says (codes "havoc") t) _ _ (other_word (codes "skip") (codes "havoc") t e refl)
+      ∙ skips (says (codes "assume") t) _ _ (other_word (codes "skip") (codes "assume") t e refl)
+      ∙ skips (says (codes "assert") t) _ _ (other_word (codes "skip") (codes "assert") t e refl)
+      ∙ skips (says (codes "if") t) _ _ (other_word (codes "skip") (codes "if") t e refl)
+      ∙ skips (says (codes "while") t) _ _ (other_word (codes "skip") (codes "while") t e refl)
+      ∙ takes (says (codes "skip") t) _ _ e ∙ counted t (Ok Skips) k
 
-  is_set : (t : Counted) (i : ℕ) → is_variable t ≡ true → known names t ≡ Ok i → is_one_too_many L t ≡ false → verb L names t ≡ Some (Ok (Sets i))
+  is_set : (t : Counted) (i : ℕ) → is_variable t ≡ true → known names t ≡ Ok i → is_one_too_many L t ≡ false →
+      verb L names t ≡ Some (Ok (Sets i))
   is_set t i e h k =
-      skips (says (codes "havoc") t) _ _ (not_of is_name (codes "havoc") t refl e) ∙ skips (says (codes "assume") t) _ _ (not_of is_name (codes "assume") t refl e)
-      ∙ skips (says (codes "assert") t) _ _ (not_of is_name (codes "assert") t refl e) ∙ skips (says (codes "if") t) _ _ (not_of is_name (codes "if") t refl e)
-      ∙ skips (says (codes "while") t) _ _ (not_of is_name (codes "while") t refl e) ∙ skips (says (codes "skip") t) _ _ (not_of is_name (codes "skip") t refl e)
+      skips (says (codes "havoc") t) _ _ (not_of is_name (codes "havoc") t refl e) ∙ skips (says (codes "assume") t) _ _
+      (not_of is_name (codes "assume") t refl e)
+      ∙ skips (says (codes "assert") t) _ _ (not_of is_name (codes "assert") t refl e) ∙ skips (says (codes "if") t) _ _
+      (not_of is_name (codes "if") t refl e)
+      ∙ skips (says (codes "while") t) _ _ (not_of is_name (codes "while") t refl e) ∙ skips (says (codes "skip") t) _ _
+      (not_of is_name (codes "skip") t refl e)
       ∙ takes (is_variable t) _ _ e ∙ counted t (passed Sets (known names t)) k ∙ ap (λ z. Some (passed Sets z)) h
 
   -- a part and `;`
-  ended_spelled : {A : Type 0} {R : List Counted → A → Type 0} (f : A → Stmt) (x : A) (is : List Ink) (us : List Counted) → AreInks L names (is ++ Says (codes ";") ∷ Feed ∷ []) us → ((vs : List Counted) → AreInks L names is vs → R vs x) → Then R (λ y. Then (IsSaid (codes ";")) (λ u. Empty (f y))) us (f x)
+  ended_spelled : {A : Type 0} {R : List Counted → A → Type 0} (f : A → Stmt) (x : A) (is : List Ink)
+      (us : List Counted) → AreInks L names (is ++ Says (codes ";") ∷ Feed ∷ []) us →
+      ((vs : List Counted) → AreInks L names is vs → R vs x) →
+      Then R (λ y. Then (IsSaid (codes ";")) (λ u. Empty (f y))) us (f x)
   ended_spelled f x is us h to =
       let k = split L names is (Says (codes ";") ∷ Feed ∷ []) us h in
-      record { front = k.front; back = k.back; value = x; whole = k.whole; first = to k.front k.first; second = Then_all k.back tt (f x) (said_ink L names (codes ";") k.back k.second) (the_empty (f x) [] refl) }
+      record {
+        front = k.front;
+        back = k.back;
+        value = x;
+        whole = k.whole;
+        first = to k.front k.first;
+        second =
+            Then_all k.back tt (f x) (said_ink L names (codes ";") k.back k.second) (the_empty (f x) [] refl);
+      }
 
   is_open : (t : Counted) → says (codes "{") t ≡ true → block_sign true t ≡ Ok tt
   is_open t e = rw e refl
 
   -- a block, and what stands behind it
-  brace_then : {B : Type 0} {S : Block → List Counted → B → Type 0} (n m d : ℕ) (a : Block) (js : List Ink) (us : List Counted) (y : B) → ((vs : List Counted) → AreInks L names (block_inks m a) vs → AreStatements L rule names d vs a)
-      → AreInks L names (Says (codes "{") ∷ Feed ∷ (block_inks m a ++ (indent n ++ Says (codes "}") ∷ js))) us → ((vs : List Counted) → AreInks L names js vs → S a vs y) → Then (IsBlock true (AreStatements L rule names d)) S us y
+  brace_then : {B : Type 0} {S : Block → List Counted → B → Type 0} (n m d : ℕ) (a : Block) (js : List Ink)
+      (us : List Counted) (y : B) → ((vs : List Counted) → AreInks L names (block_inks m a) vs →
+      AreStatements L rule names d vs a)
+      → AreInks L names (Says (codes "{") ∷ Feed ∷ (block_inks m a ++ (indent n ++ Says (codes "}") ∷ js))) us →
+      ((vs : List Counted) → AreInks L names js vs → S a vs y) →
+      Then (IsBlock true (AreStatements L rule names d)) S us y
   brace_then n m d a js us y inner h more =
       let k = split L names (block_inks m a) (indent n ++ Says (codes "}") ∷ js) h.1 h.5 in
       let q = split L names (Says (codes "}") ∷ []) js k.back (unindent n (Says (codes "}") ∷ js) k.back k.second) in
@@ -203,54 +284,86 @@ module _ (L : Limits) (rule : AssertRule) (names : List (List ℕ)) where
         front = g.front ++ h.0 ∷ (k.front ++ q.front);
         back = q.back;
         value = a;
-        whole = token_whole language us h.0 h.1 h.2 g ∙ ap (λ (z : List Counted). g.front ++ h.0 ∷ z) (k.whole ∙ ap (λ (z : List Counted). k.front ++ z) q.whole ∙ sym (append_assoc k.front q.front q.back)) ∙ sym (regroup language g.front h.0 (k.front ++ q.front) q.back);
-        first = Then_begun (g.front ++ h.0 ∷ (k.front ++ q.front)) h.0 (k.front ++ q.front) tt a (at_token language us h.0 h.1 h.2 g (k.front ++ q.front)) (is_open h.0 h.4.1)
-            (record { front = k.front; back = q.front; value = a; whole = refl; first = inner k.front k.first; second = Then_all q.front tt a (said_ink L names (codes "}") q.front q.first) (the_empty a [] refl) });
+        whole = token_whole language us h.0 h.1 h.2 g ∙ ap (λ (z : List Counted). g.front ++ h.0 ∷ z)
+            (k.whole ∙ ap (λ (z : List Counted). k.front ++ z) q.whole ∙ sym (append_assoc k.front q.front q.back))
+            ∙ sym (regroup language g.front h.0 (k.front ++ q.front) q.back);
+        first = Then_begun (g.front ++ h.0 ∷ (k.front ++ q.front)) h.0 (k.front ++ q.front) tt a
+            (at_token language us h.0 h.1 h.2 g (k.front ++ q.front)) (is_open h.0 h.4.1)
+            (record {
+              front = k.front;
+              back = q.front;
+              value = a;
+              whole = refl;
+              first = inner k.front k.first;
+              second =
+                  Then_all q.front tt a (said_ink L names (codes "}") q.front q.first) (the_empty a [] refl);
+            });
         second = more q.back q.second;
       }
 
   abbrev IsStep : ℕ → Block → Verb → List Counted → Block → Type 0
   IsStep d xs v = Then (IsRest d v) (λ x. Empty (and_then xs x))
 
-  statements_are : (d : ℕ) (us : List Counted) (b : Block) → Many skipped (λ (xs : Block). verb L names) (IsStep d) tree.Empty us b → AreStatements L rule names d us b
+  statements_are : (d : ℕ) (us : List Counted) (b : Block) →
+      Many skipped (λ (xs : Block). verb L names) (IsStep d) tree.Empty us b → AreStatements L rule names d us b
   unfolding AreStatements
   statements_are zero us b h = h
   statements_are (suc d) us b h = h
 
-  havoc_rest : (i : ℕ) (us : List Counted) → AreInks L names (Name i ∷ []) us → One skipped (Passes (variable names)) us i
+  havoc_rest : (i : ℕ) (us : List Counted) → AreInks L names (Name i ∷ []) us →
+      One skipped (Passes (variable names)) us i
   havoc_rest i us h = a_one us h.0 h.1 i h.2 h.5 (let e = h.4.1 in takes (is_variable h.0) _ _ e ∙ h.4.2)
 
   -- the second block, or none
-  else_spelled : (n d : ℕ) (c : Cond) (a b : Block) (us : List Counted) → ((vs : List Counted) → AreInks L names (block_inks (suc n) b) vs → AreStatements L rule names d vs b)
-      → AreInks L names (Says (codes "else") ∷ Blank ∷ Says (codes "{") ∷ Feed ∷ (block_inks (suc n) b ++ (indent n ++ closing))) us → Then (Maybe skipped (goes_on (codes "else")) tree.Empty (λ u. IsBlock true (AreStatements L rule names d))) (λ ys. Empty (If c a ys)) us (If c a b)
+  else_spelled : (n d : ℕ) (c : Cond) (a b : Block) (us : List Counted) →
+      ((vs : List Counted) → AreInks L names (block_inks (suc n) b) vs → AreStatements L rule names d vs b)
+      → AreInks L names (Says (codes "else") ∷ Blank ∷ Says (codes "{") ∷ Feed ∷
+      (block_inks (suc n) b ++ (indent n ++ closing))) us →
+      Then (Maybe skipped (goes_on (codes "else")) tree.Empty (λ u. IsBlock true (AreStatements L rule names d)))
+      (λ ys. Empty (If c a ys)) us (If c a b)
   else_spelled n d c a b us inner h =
-      Then_all us b (If c a b) (Written h.0 tt h.1 h.2 (goes (codes "else") h.0 h.4.1) (Then_back h.1 b (brace_then n (suc n) d b (Feed ∷ []) h.1 b inner h.5 (λ vs q. the_empty b vs q)))) (the_empty (If c a b) [] refl)
+      Then_all us b (If c a b) (Written h.0 tt h.1 h.2 (goes (codes "else") h.0 h.4.1)
+      (Then_back h.1 b (brace_then n (suc n) d b (Feed ∷ []) h.1 b inner h.5 (λ vs q. the_empty b vs q))))
+      (the_empty (If c a b) [] refl)
 
   -- what stands behind the condition of an `if`
-  if_rest : (n d : ℕ) (c : Cond) (a b : Block) (us : List Counted) → ((vs : List Counted) → AreInks L names (block_inks (suc n) a) vs → AreStatements L rule names d vs a) → ((vs : List Counted) → AreInks L names (block_inks (suc n) b) vs → AreStatements L rule names d vs b)
-      → AreInks L names (Says (codes "{") ∷ Feed ∷ (block_inks (suc n) a ++ (else_inks n b (block_inks (suc n) b) ++ (indent n ++ closing)))) us
-      → Then (IsBlock true (AreStatements L rule names d)) (λ xs. Then (Maybe skipped (goes_on (codes "else")) tree.Empty (λ u. IsBlock true (AreStatements L rule names d))) (λ ys. Empty (If c xs ys))) us (If c a b)
-  if_rest n d c a tree.Empty us first second h = brace_then n (suc n) d a (Feed ∷ []) us (If c a tree.Empty) first h (λ vs q. Then_all vs tree.Empty (If c a tree.Empty) (LeftOut q refl) (the_empty (If c a tree.Empty) [] refl))
+  if_rest : (n d : ℕ) (c : Cond) (a b : Block) (us : List Counted) →
+      ((vs : List Counted) → AreInks L names (block_inks (suc n) a) vs → AreStatements L rule names d vs a) →
+      ((vs : List Counted) → AreInks L names (block_inks (suc n) b) vs → AreStatements L rule names d vs b)
+      → AreInks L names (Says (codes "{") ∷ Feed ∷
+      (block_inks (suc n) a ++ (else_inks n b (block_inks (suc n) b) ++ (indent n ++ closing)))) us
+      → Then (IsBlock true (AreStatements L rule names d))
+      (λ xs. Then (Maybe skipped (goes_on (codes "else")) tree.Empty
+      (λ u. IsBlock true (AreStatements L rule names d))) (λ ys. Empty (If c xs ys))) us (If c a b)
+  if_rest n d c a tree.Empty us first second h = brace_then n (suc n) d a (Feed ∷ []) us (If c a tree.Empty) first h
+      (λ vs q. Then_all vs tree.Empty (If c a tree.Empty) (LeftOut q refl) (the_empty (If c a tree.Empty) [] refl))
   if_rest n d c a (tree.Then x xs) us first second h =
       let b = tree.Then x xs in
       let more : List Ink = Says (codes "else") ∷ Blank ∷ Says (codes "{") ∷ Feed ∷ block_inks (suc n) b in
-      let e : (indent n ++ Says (codes "}") ∷ Blank ∷ more) ++ (indent n ++ closing) ≡ indent n ++ Says (codes "}") ∷ Blank ∷ (more ++ (indent n ++ closing)) = append_assoc (indent n) (Says (codes "}") ∷ Blank ∷ more) (indent n ++ closing) in
+      let e : (indent n ++ Says (codes "}") ∷ Blank ∷ more) ++ (indent n ++ closing) ≡ indent n
+      ++ Says (codes "}") ∷ Blank ∷ (more ++ (indent n ++ closing)) =
+      append_assoc (indent n) (Says (codes "}") ∷ Blank ∷ more) (indent n ++ closing) in
       brace_then n (suc n) d a (Blank ∷ (more ++ (indent n ++ closing))) us (If c a b) first
       (subst (λ z. AreInks L names (Says (codes "{") ∷ Feed ∷ (block_inks (suc n) a ++ z)) us) e h)
       (λ vs q. else_spelled n d c a b vs second q)
 
-  whole_block : (b : Block) (d : ℕ) (us : List Counted) → Many skipped (λ (xs : Block). verb L names) (IsStep d) tree.Empty us (joined tree.Empty b) → AreStatements L rule names d us b
-  whole_block b d us h = statements_are d us b (subst (λ z. Many skipped (λ (xs : Block). verb L names) (IsStep d) tree.Empty us z) (joined-none b) h)
+  whole_block : (b : Block) (d : ℕ) (us : List Counted) →
+      Many skipped (λ (xs : Block). verb L names) (IsStep d) tree.Empty us (joined tree.Empty b) →
+      AreStatements L rule names d us b
+  whole_block b d us h = statements_are d us b (subst
+      (λ z. Many skipped (λ (xs : Block). verb L names) (IsStep d) tree.Empty us z) (joined-none b) h)
 
   mutual
-    stmt_spelled : (x : Stmt) (n d : ℕ) (us : List Counted) → SuitsStmt rule x → stmt_nesting x ≤ d → AreInks L names (stmt_inks n x) us → IsVerb d x us
+    stmt_spelled : (x : Stmt) (n d : ℕ) (us : List Counted) → SuitsStmt rule x → stmt_nesting x ≤ d →
+        AreInks L names (stmt_inks n x) us → IsVerb d x us
     stmt_spelled (Set i t) n d us s le h = record {
       token = h.0;
       behind = h.1;
       whole = h.2;
       word = Sets i;
       judged = is_set h.0 i h.4.1 h.4.2 h.3.one;
-      rest = said_then L names (codes ":=") (Blank ∷ (term_inks t ++ Says (codes ";") ∷ Feed ∷ [])) h.1 (Set i t) h.5 (λ vs q. ended_spelled (λ y. Set i y) t (term_inks t) vs q (operand_spelled L names t));
+      rest = said_then L names (codes ":=") (Blank ∷ (term_inks t ++ Says (codes ";") ∷ Feed ∷ [])) h.1 (Set i t) h.5
+          (λ vs q. ended_spelled (λ y. Set i y) t (term_inks t) vs q (operand_spelled L names t));
     }
     stmt_spelled (Havoc i) n d us s le h = record {
       token = h.0;
@@ -286,7 +399,8 @@ module _ (L : Limits) (rule : AssertRule) (names : List (List ℕ)) where
     }
     stmt_spelled (If c a b) n zero us s le h = absurd (omega arith)
     stmt_spelled (If c a b) n (suc d) us s le h =
-        let k = split L names (cond_inks Loose c) (Blank ∷ Says (codes "{") ∷ Feed ∷ (block_inks (suc n) a ++ (else_inks n b (block_inks (suc n) b) ++ (indent n ++ closing)))) h.1 h.5 in
+        let k = split L names (cond_inks Loose c) (Blank ∷ Says (codes "{") ∷ Feed ∷
+        (block_inks (suc n) a ++ (else_inks n b (block_inks (suc n) b) ++ (indent n ++ closing)))) h.1 h.5 in
         let le0 : cond_nesting Loose c ≤ suc d = omega arith in
         let le1 : block_nesting a ≤ d = omega arith in
         let le2 : block_nesting b ≤ d = omega arith in
@@ -302,12 +416,15 @@ module _ (L : Limits) (rule : AssertRule) (names : List (List ℕ)) where
             value = c;
             whole = k.whole;
             first = condition_spelled L names c (suc d) k.front le0 k.first;
-            second = if_rest n d c a b k.back (λ vs q. whole_block a d vs (many_spelled a (suc n) d tree.Empty vs s.0 le1 q)) (λ vs q. whole_block b d vs (many_spelled b (suc n) d tree.Empty vs s.1 le2 q)) k.second;
+            second = if_rest n d c a b k.back (λ vs q.
+                whole_block a d vs (many_spelled a (suc n) d tree.Empty vs s.0 le1 q))
+                (λ vs q. whole_block b d vs (many_spelled b (suc n) d tree.Empty vs s.1 le2 q)) k.second;
           };
         }
     stmt_spelled (While c a) n zero us s le h = absurd (omega arith)
     stmt_spelled (While c a) n (suc d) us s le h =
-        let k = split L names (cond_inks Loose c) (Blank ∷ Says (codes "{") ∷ Feed ∷ (block_inks (suc n) a ++ (indent n ++ closing))) h.1 h.5 in
+        let k = split L names (cond_inks Loose c) (Blank ∷ Says (codes "{") ∷ Feed ∷
+        (block_inks (suc n) a ++ (indent n ++ closing))) h.1 h.5 in
         let le0 : cond_nesting Loose c ≤ suc d = omega arith in
         let le1 : block_nesting a ≤ d = omega arith in
         record {
@@ -322,21 +439,28 @@ module _ (L : Limits) (rule : AssertRule) (names : List (List ℕ)) where
             value = c;
             whole = k.whole;
             first = condition_spelled L names c (suc d) k.front le0 k.first;
-            second = brace_then n (suc n) d a (Feed ∷ []) k.back (While c a) (λ vs q. whole_block a d vs (many_spelled a (suc n) d tree.Empty vs s le1 q)) k.second (λ vs q. the_empty (While c a) vs q);
+            second = brace_then n (suc n) d a (Feed ∷ []) k.back (While c a)
+                (λ vs q. whole_block a d vs (many_spelled a (suc n) d tree.Empty vs s le1 q)) k.second
+                (λ vs q. the_empty (While c a) vs q);
           };
         }
 
-    many_spelled : (b : Block) (n d : ℕ) (xs : Block) (us : List Counted) → SuitsBlock rule b → block_nesting b ≤ d → AreInks L names (block_inks n b) us → Many skipped (λ (xs : Block). verb L names) (IsStep d) xs us (joined xs b)
+    many_spelled : (b : Block) (n d : ℕ) (xs : Block) (us : List Counted) → SuitsBlock rule b → block_nesting b ≤ d →
+        AreInks L names (block_inks n b) us → Many skipped (λ (xs : Block). verb L names) (IsStep d) xs us (joined xs b)
     many_spelled tree.Empty n d xs us s le h = NoMore h refl
     many_spelled (tree.Then x ys) n d xs us s le h =
-        let k = split L names (stmt_inks n x) (block_inks n ys) us (unindent n (stmt_inks n x ++ block_inks n ys) us h) in
+        let k = split L names (stmt_inks n x) (block_inks n ys) us
+        (unindent n (stmt_inks n x ++ block_inks n ys) us h) in
         let le0 : stmt_nesting x ≤ d = omega arith in
         let le1 : block_nesting ys ≤ d = omega arith in
         let v = stmt_spelled x n d k.front s.0 le0 k.first in
         OneMore v.token v.word (v.behind ++ k.back) v.behind k.back (and_then xs x)
-        (ap (λ (z : List Counted). past skipped z) k.whole ∙ past-append skipped k.front v.token v.behind k.back v.whole) v.judged refl
-        (Then_all v.behind x (and_then xs x) v.rest (the_empty (and_then xs x) [] refl)) (many_spelled ys n d (and_then xs x) k.back s.1 le1 k.second)
+        (ap (λ (z : List Counted). past skipped z) k.whole
+        ∙ past-append skipped k.front v.token v.behind k.back v.whole) v.judged refl
+        (Then_all v.behind x (and_then xs x) v.rest (the_empty (and_then xs x) [] refl))
+        (many_spelled ys n d (and_then xs x) k.back s.1 le1 k.second)
 
   -- tokens that are a printed block spell it
-  pub block_spelled : (b : Block) (n d : ℕ) (us : List Counted) → SuitsBlock rule b → block_nesting b ≤ d → AreInks L names (block_inks n b) us → AreStatements L rule names d us b
+  pub block_spelled : (b : Block) (n d : ℕ) (us : List Counted) → SuitsBlock rule b → block_nesting b ≤ d →
+      AreInks L names (block_inks n b) us → AreStatements L rule names d us b
   block_spelled b n d us s le h = whole_block b d us (many_spelled b n d tree.Empty us s le h)

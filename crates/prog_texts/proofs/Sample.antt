@@ -30,7 +30,9 @@ abbrev least : Term → Term → Side
 least s t = record { word = Least; terms = s ∷ t ∷ [] }
 
 abbrev search : List ℕ
-search = codes "vars ls n ld;\nassume ls >= 0;\nld := 0;\nwhile ld < n && ld < ls {\n  ld := ld + 1;\n}\nif ld >= n {\n  havoc ld;\n  assume ld >= n;\n}\nassert min(ls, n) = min(ld, n);\n"
+search =
+    codes
+    "vars ls n ld;\nassume ls >= 0;\nld := 0;\nwhile ld < n && ld < ls {\n  ld := ld + 1;\n}\nif ld >= n {\n  havoc ld;\n  assume ld >= n;\n}\nassert min(ls, n) = min(ld, n);\n"
 
 abbrev tree : Named
 tree = record {
@@ -38,13 +40,17 @@ tree = record {
   body =
       Then (Assume (Atom (x 1) Ge (number 0)))
       (Then (Set 3 (number 0))
-      (Then (While (And (Atom (x 3) Lt (x 2)) (Atom (x 3) Lt (x 1))) (Then (Set 3 (record { coord = 3; add = pos 1 })) Empty))
+      (Then (While (And (Atom (x 3) Lt (x 2)) (Atom (x 3) Lt (x 1)))
+      (Then (Set 3 (record { coord = 3; add = pos 1 })) Empty))
       (Then (If (Atom (x 3) Ge (x 2)) (Then (Havoc 3) (Then (Assume (Atom (x 3) Ge (x 2))) Empty)) Empty)
       (Then (Assert (record { left = least (x 1) (x 2); rel = Same; right = least (x 3) (x 2) })) Empty))));
 }
 
 search_read : whole_program_at program_limits MinOnly (program_pieces search) ≡ Ok (tree, [])
-unfolding whole_program_at program_at declaration_at declared_at statements_at one_more_at statement_rest block_at claim_at side_at side_rest listed_at terms_from next_term_at negation_at negation_rest bracket_at compared_at chain_at link_at operand_rest moved_at counted pieces_from tokens_past sign_len tail_len past token_past maybe_past many_from many_past token_at read_then gives
+unfolding whole_program_at program_at declaration_at declared_at statements_at one_more_at statement_rest block_at
+    claim_at side_at side_rest listed_at terms_from next_term_at negation_at negation_rest bracket_at compared_at
+    chain_at link_at operand_rest moved_at counted pieces_from tokens_past sign_len tail_len past token_past maybe_past
+    many_from many_past token_at read_then gives
 search_read = refl
 
 -- and the tree is printed as the text

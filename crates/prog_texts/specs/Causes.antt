@@ -21,7 +21,8 @@ IsOpen s us =
 -- t stands inside n signs among the tokens before, one within the other
 abbrev pub IsInside : ℕ → List Counted → Counted → Type 0
 IsInside zero before t = Unit {0}
-IsInside (suc n) before t = (front after : List Counted) × (s : Counted) × (before ≡ front ++ s ∷ after) × IsOpen s (after ++ t ∷ []) × IsInside n after t
+IsInside (suc n) before t = (front after : List Counted) × (s : Counted) × (before ≡ front ++ s ∷ after)
+    × IsOpen s (after ++ t ∷ []) × IsInside n after t
 
 abbrev pub opens : Counted → Bool
 opens t = says (codes "!") t || says (codes "(") t || says (codes "{") t

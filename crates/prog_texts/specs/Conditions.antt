@@ -52,7 +52,8 @@ abbrev pub IsCompared : Limits → List (List ℕ) → Term → List Counted →
 IsCompared L names l = Then (IsWord comparison_of) (λ c. Then (IsOperand L names) (λ r. Empty (Atom l c r)))
 
 -- the rest of a negation, in which others may stand
-abbrev pub IsNegationRest : Limits → List (List ℕ) → (List Counted → Cond → Type 0) → Start → List Counted → Cond → Type 0
+abbrev pub IsNegationRest : Limits → List (List ℕ) → (List Counted → Cond → Type 0) → Start → List Counted → Cond →
+    Type 0
 IsNegationRest L names Inner Bang = Then Inner (λ x. Empty (Not x))
 IsNegationRest L names Inner Bracket = Then (IsConditionOf Inner) (λ x. Then (IsSaid (codes ")")) (λ u. Empty x))
 IsNegationRest L names Inner Ask = Empty Any
@@ -64,30 +65,36 @@ Nowhere us x = ⊥
 -- a negation in which signs may stand n deep
 unfoldable pub IsNegation : Limits → List (List ℕ) → ℕ → List Counted → Cond → Type 0
 IsNegation L names zero = Then (One skipped (Passes (start L names false))) (IsNegationRest L names Nowhere)
-IsNegation L names (suc n) = Then (One skipped (Passes (start L names true))) (IsNegationRest L names (IsNegation L names n))
+IsNegation L names (suc n) = Then (One skipped (Passes (start L names true)))
+    (IsNegationRest L names (IsNegation L names n))
 
 abbrev pub IsCondition : Limits → List (List ℕ) → ℕ → List Counted → Cond → Type 0
 IsCondition L names n = IsConditionOf (IsNegation L names n)
 
 -- ---- reading
 
-unfoldable pub link_at : (Cond → Cond → Cond) → (List Counted → Reading Counted FaultKind Cond) → Cond → Unit {0} → List Counted → Reading Counted FaultKind Cond
+unfoldable pub link_at : (Cond → Cond → Cond) → (List Counted → Reading Counted FaultKind Cond) → Cond → Unit {0} →
+    List Counted → Reading Counted FaultKind Cond
 link_at join r x u = r >>= λ y. gives (join x y)
 
-unfoldable pub chain_at : List ℕ → (Cond → Cond → Cond) → (List Counted → Reading Counted FaultKind Cond) → List Counted → Reading Counted FaultKind Cond
+unfoldable pub chain_at : List ℕ → (Cond → Cond → Cond) → (List Counted → Reading Counted FaultKind Cond) →
+    List Counted → Reading Counted FaultKind Cond
 chain_at word join r = r >>= many_past skipped (λ x. goes_on word) (link_at join r)
 
-abbrev pub condition_of : (List Counted → Reading Counted FaultKind Cond) → List Counted → Reading Counted FaultKind Cond
+abbrev pub condition_of : (List Counted → Reading Counted FaultKind Cond) → List Counted →
+    Reading Counted FaultKind Cond
 condition_of r = chain_at (codes "||") Or (chain_at (codes "&&") And r)
 
 unfoldable pub compared_at : Limits → List (List ℕ) → Term → List Counted → Reading Counted FaultKind Cond
 compared_at L names l = word_at comparison_of >>= λ c. operand_at L names >>= λ r. gives (Atom l c r)
 
 -- a condition in brackets, behind the first
-unfoldable pub bracket_at : (List Counted → Reading Counted FaultKind Cond) → List Counted → Reading Counted FaultKind Cond
+unfoldable pub bracket_at : (List Counted → Reading Counted FaultKind Cond) → List Counted →
+    Reading Counted FaultKind Cond
 bracket_at inner = condition_of inner >>= λ x. said_at (codes ")") >>= λ u. gives x
 
-unfoldable pub negation_rest : Limits → List (List ℕ) → (List Counted → Reading Counted FaultKind Cond) → Start → List Counted → Reading Counted FaultKind Cond
+unfoldable pub negation_rest : Limits → List (List ℕ) → (List Counted → Reading Counted FaultKind Cond) → Start →
+    List Counted → Reading Counted FaultKind Cond
 negation_rest L names inner Bang = inner >>= λ x. gives (Not x)
 negation_rest L names inner Bracket = bracket_at inner
 negation_rest L names inner Ask = gives Any
@@ -99,7 +106,8 @@ nowhere ts = Err (record { what = Syntax; rest = ts })
 
 unfoldable pub negation_at : Limits → List (List ℕ) → ℕ → List Counted → Reading Counted FaultKind Cond
 negation_at L names zero = token_past skipped Syntax (start L names false) >>= negation_rest L names nowhere
-negation_at L names (suc n) = token_past skipped Syntax (start L names true) >>= negation_rest L names (negation_at L names n)
+negation_at L names (suc n) = token_past skipped Syntax (start L names true) >>= negation_rest L names
+    (negation_at L names n)
 
 abbrev pub condition_at : Limits → List (List ℕ) → ℕ → List Counted → Reading Counted FaultKind Cond
 condition_at L names n = condition_of (negation_at L names n)

@@ -26,4 +26,5 @@ abbrev pub AreInks : Limits → List (List ℕ) → List Ink → List Counted �
 AreInks L names [] ts = ts ≡ []
 AreInks L names (Blank ∷ is) ts = AreInks L names is ts
 AreInks L names (Feed ∷ is) ts = AreInks L names is ts
-AreInks L names (i ∷ is) ts = (t : Counted) × (rest : List Counted) × (past skipped ts ≡ t ∷ rest) × IsWithin L t × IsInk L names i t × AreInks L names is rest
+AreInks L names (i ∷ is) ts = (t : Counted) × (rest : List Counted) × (past skipped ts ≡ t ∷ rest) × IsWithin L t
+    × IsInk L names i t × AreInks L names is rest

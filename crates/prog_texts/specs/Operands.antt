@@ -42,7 +42,8 @@ first L names t =
     else (if is_variable t then passed Variable (known names t) else Err Syntax))
 
 abbrev pub way_of : List ℕ → Option (Result Way FaultKind)
-way_of word = if bytes_eq word (codes "+") then Some (Ok Plus) else (if bytes_eq word (codes "-") then Some (Ok Minus) else None)
+way_of word = if bytes_eq word (codes "+") then Some (Ok Plus) else
+    (if bytes_eq word (codes "-") then Some (Ok Minus) else None)
 
 abbrev pub way : Counted → Option (Result Way FaultKind)
 way t = way_of (text t)
@@ -62,7 +63,8 @@ IsWord table = One skipped (Passes (λ t. wanted (table (text t))))
 abbrev pub IsOperandRest : Limits → First → List Counted → Term → Type 0
 IsOperandRest L (Value n) = Empty (constant (pos n))
 IsOperandRest L Negative = Then (IsNumber L.number) (λ n. Empty (constant (neg_ℤ (pos n))))
-IsOperandRest L (Variable i) = Maybe skipped way (moved i (pos 0)) (λ w. Then (IsNumber L.number) (λ n. Empty (moved i (by w n))))
+IsOperandRest L (Variable i) = Maybe skipped way (moved i (pos 0))
+    (λ w. Then (IsNumber L.number) (λ n. Empty (moved i (by w n))))
 
 abbrev pub IsOperand : Limits → List (List ℕ) → List Counted → Term → Type 0
 IsOperand L names = Then (One skipped (Passes (first L names))) (IsOperandRest L)

@@ -92,7 +92,8 @@ closing = Says (codes "}") ∷ Feed ∷ []
 -- what stands behind the first block, before the last `}`: nothing, or `} else {` and the second block
 abbrev pub else_inks : ℕ → Block → List Ink → List Ink
 else_inks n Empty is = []
-else_inks n (Then x xs) is = indent n ++ Says (codes "}") ∷ Blank ∷ Says (codes "else") ∷ Blank ∷ Says (codes "{") ∷ Feed ∷ is
+else_inks n (Then x xs) is = indent n ++ Says (codes "}") ∷ Blank ∷ Says (codes "else") ∷ Blank ∷ Says
+    (codes "{") ∷ Feed ∷ is
 
 -- a statement, and a block, inside n blocks
 abbrev mutual
@@ -102,8 +103,10 @@ abbrev mutual
   stmt_inks n (Assume c) = ended (Says (codes "assume") ∷ Blank ∷ cond_inks Loose c)
   stmt_inks n (Assert c) = ended (Says (codes "assert") ∷ Blank ∷ claim_inks c)
   stmt_inks n (If c a b) =
-      Says (codes "if") ∷ Blank ∷ (cond_inks Loose c ++ Blank ∷ Says (codes "{") ∷ Feed ∷ (block_inks (suc n) a ++ (else_inks n b (block_inks (suc n) b) ++ (indent n ++ closing))))
-  stmt_inks n (While c a) = Says (codes "while") ∷ Blank ∷ (cond_inks Loose c ++ Blank ∷ Says (codes "{") ∷ Feed ∷ (block_inks (suc n) a ++ (indent n ++ closing)))
+      Says (codes "if") ∷ Blank ∷ (cond_inks Loose c ++ Blank ∷ Says (codes "{") ∷ Feed ∷
+      (block_inks (suc n) a ++ (else_inks n b (block_inks (suc n) b) ++ (indent n ++ closing))))
+  stmt_inks n (While c a) = Says (codes "while") ∷ Blank ∷
+      (cond_inks Loose c ++ Blank ∷ Says (codes "{") ∷ Feed ∷ (block_inks (suc n) a ++ (indent n ++ closing)))
   stmt_inks n Skip = ended (Says (codes "skip") ∷ [])
 
   pub block_inks : ℕ → Block → List Ink

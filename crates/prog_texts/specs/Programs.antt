@@ -27,7 +27,8 @@ undeclared (Some place) name = Err DuplicateName
 -- one more name: the count is judged before it
 abbrev pub new_name : Limits → List (List ℕ) → Counted → Option (Result (List ℕ) FaultKind)
 new_name L names t =
-    if is_variable t then Some (if nat_le L.vars (length names) then Err TooManyVars else undeclared (place_of (text t) names) (text t)) else None
+    if is_variable t then Some (if nat_le L.vars (length names) then Err TooManyVars else undeclared
+    (place_of (text t) names) (text t)) else None
 
 -- the token that ends a program
 abbrev pub closed : Counted → Result (Unit {0}) FaultKind
@@ -40,10 +41,12 @@ AreNew L = Many skipped (new_name L) (λ names name. Empty (names ++ name ∷ []
 
 -- `vars`, distinct names and `;`
 abbrev pub IsDeclaration : Limits → List Counted → List (List ℕ) → Type 0
-IsDeclaration L = Then (IsSaid (codes "vars")) (λ u. Then (AreNew L []) (λ names. Then (IsSaid (codes ";")) (λ v. Empty names)))
+IsDeclaration L = Then (IsSaid (codes "vars")) (λ u.
+    Then (AreNew L []) (λ names. Then (IsSaid (codes ";")) (λ v. Empty names)))
 
 abbrev pub IsProgram : Limits → AssertRule → List Counted → Named → Type 0
-IsProgram L rule = Then (IsDeclaration L) (λ names. Then (AreStatements L rule names L.depth) (λ xs. Empty (record { names = names; body = xs })))
+IsProgram L rule = Then (IsDeclaration L) (λ names. Then (AreStatements L rule names L.depth)
+    (λ xs. Empty (record { names = names; body = xs })))
 
 -- a program up to the end of the input
 abbrev pub IsWholeProgram : Limits → AssertRule → List Counted → Named → Type 0
@@ -55,10 +58,12 @@ unfoldable pub declared_at : List (List ℕ) → List ℕ → List Counted → R
 declared_at names name = gives (names ++ name ∷ [])
 
 unfoldable pub declaration_at : Limits → List Counted → Reading Counted FaultKind (List (List ℕ))
-declaration_at L = said_at (codes "vars") >>= λ u. many_past skipped (new_name L) declared_at [] >>= λ names. said_at (codes ";") >>= λ v. gives names
+declaration_at L = said_at (codes "vars") >>= λ u. many_past skipped (new_name L) declared_at [] >>= λ names.
+    said_at (codes ";") >>= λ v. gives names
 
 unfoldable pub program_at : Limits → AssertRule → List Counted → Reading Counted FaultKind Named
-program_at L rule = declaration_at L >>= λ names. statements_at L rule names L.depth >>= λ xs. gives (record { names = names; body = xs })
+program_at L rule = declaration_at L >>= λ names. statements_at L rule names L.depth >>= λ xs.
+    gives (record { names = names; body = xs })
 
 unfoldable pub whole_program_at : Limits → AssertRule → List Counted → Reading Counted FaultKind Named
 whole_program_at L rule = program_at L rule >>= λ p. token_past skipped Syntax ended >>= λ u. gives p
@@ -83,7 +88,8 @@ abbrev pub IsDeclared : List Counted → Counted → Type 0
 IsDeclared before t = (is_variable t ≡ true) × Begins language declaration (before ++ t ∷ [])
 
 -- behind a declaration, a cause over the declared names
-pub record IsBodyCause (L : Limits) (rule : AssertRule) (what : FaultKind) (before : List Counted) (t : Counted) : Type 0 where
+pub record IsBodyCause (L : Limits) (rule : AssertRule) (what : FaultKind) (before : List Counted)
+    (t : Counted) : Type 0 where
   pub names : List (List ℕ)
   pub front : List Counted
   pub back : List Counted

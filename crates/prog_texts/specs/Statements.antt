@@ -49,21 +49,32 @@ block_sign room t = if says (codes "{") t then opening room tt else Err Syntax
 -- ---- grammar
 
 abbrev pub IsBlock : Bool → (List Counted → Block → Type 0) → List Counted → Block → Type 0
-IsBlock room Inner = Then (One skipped (Passes (block_sign room))) (λ u. Then Inner (λ xs. Then (IsSaid (codes "}")) (λ v. Empty xs)))
+IsBlock room Inner = Then (One skipped (Passes (block_sign room)))
+    (λ u. Then Inner (λ xs. Then (IsSaid (codes "}")) (λ v. Empty xs)))
 
 -- the rest of a statement, behind its first token
-abbrev pub IsStatementRest : Limits → AssertRule → List (List ℕ) → ℕ → Bool → (List Counted → Block → Type 0) → Verb → List Counted → Stmt → Type 0
-IsStatementRest L rule names n room Inner Havocs = Then (One skipped (Passes (variable names))) (λ i. Then (IsSaid (codes ";")) (λ u. Empty (Havoc i)))
-IsStatementRest L rule names n room Inner Assumes = Then (IsCondition L names n) (λ c. Then (IsSaid (codes ";")) (λ u. Empty (Assume c)))
-IsStatementRest L rule names n room Inner Asserts = Then (IsClaim L rule names) (λ c. Then (IsSaid (codes ";")) (λ u. Empty (Assert c)))
+abbrev pub IsStatementRest : Limits → AssertRule → List (List ℕ) → ℕ → Bool → (List Counted → Block → Type 0) → Verb →
+    List Counted → Stmt → Type 0
+IsStatementRest L rule names n room Inner Havocs =
+    Then (One skipped (Passes (variable names))) (λ i. Then (IsSaid (codes ";")) (λ u. Empty (Havoc i)))
+IsStatementRest L rule names n room Inner Assumes =
+    Then (IsCondition L names n) (λ c. Then (IsSaid (codes ";")) (λ u. Empty (Assume c)))
+IsStatementRest L rule names n room Inner Asserts =
+    Then (IsClaim L rule names) (λ c. Then (IsSaid (codes ";")) (λ u. Empty (Assert c)))
 IsStatementRest L rule names n room Inner Asks =
-    Then (IsCondition L names n) (λ c. Then (IsBlock room Inner) (λ xs. Then (Maybe skipped (goes_on (codes "else")) tree.Empty (λ u. IsBlock room Inner)) (λ ys. Empty (If c xs ys))))
-IsStatementRest L rule names n room Inner Loops = Then (IsCondition L names n) (λ c. Then (IsBlock room Inner) (λ xs. Empty (While c xs)))
+    Then (IsCondition L names n) (λ c. Then (IsBlock room Inner)
+    (λ xs. Then (Maybe skipped (goes_on (codes "else")) tree.Empty (λ u. IsBlock room Inner))
+    (λ ys. Empty (If c xs ys))))
+IsStatementRest L rule names n room Inner Loops = Then (IsCondition L names n)
+    (λ c. Then (IsBlock room Inner) (λ xs. Empty (While c xs)))
 IsStatementRest L rule names n room Inner Skips = Then (IsSaid (codes ";")) (λ u. Empty Skip)
-IsStatementRest L rule names n room Inner (Sets i) = Then (IsSaid (codes ":=")) (λ u. Then (IsOperand L names) (λ x. Then (IsSaid (codes ";")) (λ v. Empty (Set i x))))
+IsStatementRest L rule names n room Inner (Sets i) =
+    Then (IsSaid (codes ":=")) (λ u. Then (IsOperand L names) (λ x. Then (IsSaid (codes ";")) (λ v. Empty (Set i x))))
 
-abbrev pub AreStatementsOf : Limits → AssertRule → List (List ℕ) → ℕ → Bool → (List Counted → Block → Type 0) → Block → List Counted → Block → Type 0
-AreStatementsOf L rule names n room Inner = Many skipped (λ xs. verb L names) (λ xs v. Then (IsStatementRest L rule names n room Inner v) (λ x. Empty (and_then xs x)))
+abbrev pub AreStatementsOf : Limits → AssertRule → List (List ℕ) → ℕ → Bool → (List Counted → Block → Type 0) → Block →
+    List Counted → Block → Type 0
+AreStatementsOf L rule names n room Inner = Many skipped (λ xs. verb L names)
+    (λ xs v. Then (IsStatementRest L rule names n room Inner v) (λ x. Empty (and_then xs x)))
 
 -- statements in which signs may stand n deep
 unfoldable pub AreStatements : Limits → AssertRule → List (List ℕ) → ℕ → List Counted → Block → Type 0
@@ -72,24 +83,36 @@ AreStatements L rule names (suc n) = AreStatementsOf L rule names (suc n) true (
 
 -- ---- reading
 
-unfoldable pub block_at : Bool → (List Counted → Reading Counted FaultKind Block) → List Counted → Reading Counted FaultKind Block
-block_at room inner = token_past skipped Syntax (block_sign room) >>= λ u. inner >>= λ xs. said_at (codes "}") >>= λ v. gives xs
+unfoldable pub block_at : Bool → (List Counted → Reading Counted FaultKind Block) → List Counted →
+    Reading Counted FaultKind Block
+block_at room inner = token_past skipped Syntax (block_sign room) >>= λ u. inner >>= λ xs. said_at (codes "}") >>= λ v.
+    gives xs
 
-unfoldable pub statement_rest : Limits → AssertRule → List (List ℕ) → ℕ → Bool → (List Counted → Reading Counted FaultKind Block) → Verb → List Counted → Reading Counted FaultKind Stmt
-statement_rest L rule names n room inner Havocs = token_past skipped Syntax (variable names) >>= λ i. said_at (codes ";") >>= λ u. gives (Havoc i)
-statement_rest L rule names n room inner Assumes = condition_at L names n >>= λ c. said_at (codes ";") >>= λ u. gives (Assume c)
-statement_rest L rule names n room inner Asserts = claim_at L rule names >>= λ c. said_at (codes ";") >>= λ u. gives (Assert c)
+unfoldable pub statement_rest : Limits → AssertRule → List (List ℕ) → ℕ → Bool →
+    (List Counted → Reading Counted FaultKind Block) → Verb → List Counted → Reading Counted FaultKind Stmt
+statement_rest L rule names n room inner Havocs = token_past skipped Syntax (variable names) >>= λ i.
+    said_at (codes ";") >>= λ u. gives (Havoc i)
+statement_rest L rule names n room inner Assumes =
+    condition_at L names n >>= λ c. said_at (codes ";") >>= λ u. gives (Assume c)
+statement_rest L rule names n room inner Asserts =
+    claim_at L rule names >>= λ c. said_at (codes ";") >>= λ u. gives (Assert c)
 statement_rest L rule names n room inner Asks =
-    condition_at L names n >>= λ c. block_at room inner >>= λ xs. maybe_past skipped (goes_on (codes "else")) tree.Empty (λ u. block_at room inner) >>= λ ys. gives (If c xs ys)
-statement_rest L rule names n room inner Loops = condition_at L names n >>= λ c. block_at room inner >>= λ xs. gives (While c xs)
+    condition_at L names n >>= λ c. block_at room inner >>= λ xs. maybe_past skipped (goes_on (codes "else")) tree.Empty
+    (λ u. block_at room inner) >>= λ ys. gives (If c xs ys)
+statement_rest L rule names n room inner Loops = condition_at L names n >>= λ c. block_at room inner >>= λ xs.
+    gives (While c xs)
 statement_rest L rule names n room inner Skips = said_at (codes ";") >>= λ u. gives Skip
-statement_rest L rule names n room inner (Sets i) = said_at (codes ":=") >>= λ u. operand_at L names >>= λ x. said_at (codes ";") >>= λ v. gives (Set i x)
+statement_rest L rule names n room inner (Sets i) =
+    said_at (codes ":=") >>= λ u. operand_at L names >>= λ x. said_at (codes ";") >>= λ v. gives (Set i x)
 
-unfoldable pub one_more_at : Limits → AssertRule → List (List ℕ) → ℕ → Bool → (List Counted → Reading Counted FaultKind Block) → Block → Verb → List Counted → Reading Counted FaultKind Block
+unfoldable pub one_more_at : Limits → AssertRule → List (List ℕ) → ℕ → Bool →
+    (List Counted → Reading Counted FaultKind Block) → Block → Verb → List Counted → Reading Counted FaultKind Block
 one_more_at L rule names n room inner xs v = statement_rest L rule names n room inner v >>= λ x. gives (and_then xs x)
 
-abbrev pub statements_of : Limits → AssertRule → List (List ℕ) → ℕ → Bool → (List Counted → Reading Counted FaultKind Block) → List Counted → Reading Counted FaultKind Block
-statements_of L rule names n room inner = many_past skipped (λ xs. verb L names) (one_more_at L rule names n room inner) tree.Empty
+abbrev pub statements_of : Limits → AssertRule → List (List ℕ) → ℕ → Bool →
+    (List Counted → Reading Counted FaultKind Block) → List Counted → Reading Counted FaultKind Block
+statements_of L rule names n room inner = many_past skipped (λ xs. verb L names)
+    (one_more_at L rule names n room inner) tree.Empty
 
 unfoldable pub statements_at : Limits → AssertRule → List (List ℕ) → ℕ → List Counted → Reading Counted FaultKind Block
 statements_at L rule names zero = statements_of L rule names zero false nowhere

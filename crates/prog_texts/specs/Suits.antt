@@ -31,4 +31,5 @@ abbrev mutual
 -- names that may stand behind those before in a declaration
 abbrev pub MayFollow : Limits → List (List ℕ) → List (List ℕ) → Type 0
 MayFollow L before [] = Unit {0}
-MayFollow L before (x ∷ xs) = (is_name x ≡ true) × (place_of x before ≡ None) × (nat_le L.vars (length before) ≡ false) × MayFollow L (before ++ x ∷ []) xs
+MayFollow L before (x ∷ xs) = (is_name x ≡ true) × (place_of x before ≡ None) × (nat_le L.vars (length before) ≡ false)
+    × MayFollow L (before ++ x ∷ []) xs

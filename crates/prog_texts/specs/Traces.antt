@@ -32,12 +32,14 @@ trace_of p s c = record { program = p; start = s; choices = c }
 abbrev pub IsTraceFile : Limits → AssertRule → List Counted → TraceFile → Type 0
 IsTraceFile L rule =
     Then (IsProgram L rule) (λ p. Then (IsSaid (codes "start")) (λ u. Then (IsRow one_each L.entry) (λ s.
-    Then (IsSaid (codes "choices")) (λ v. Then (IsRow any_number L.entry) (λ c. Then (One skipped (Passes ended)) (λ w. Empty (trace_of p s c)))))))
+    Then (IsSaid (codes "choices")) (λ v. Then (IsRow any_number L.entry)
+    (λ c. Then (One skipped (Passes ended)) (λ w. Empty (trace_of p s c)))))))
 
 unfoldable pub trace_file_at : Limits → AssertRule → List Counted → Reading Counted FaultKind TraceFile
 trace_file_at L rule =
     program_at L rule >>= λ p. said_at (codes "start") >>= λ u. row_at one_each L.entry >>= λ s.
-    said_at (codes "choices") >>= λ v. row_at any_number L.entry >>= λ c. token_past skipped Syntax ended >>= λ w. gives (trace_of p s c)
+    said_at (codes "choices") >>= λ v. row_at any_number L.entry >>= λ c. token_past skipped Syntax ended >>= λ w.
+    gives (trace_of p s c)
 
 -- a cause in the program, or a number of a row that is out of range
 abbrev pub IsTraceCause : Limits → AssertRule → FaultKind → List Counted → Counted → Type 0
@@ -45,7 +47,8 @@ IsTraceCause L rule what before t =
     (Begins language program (before ++ t ∷ []) × IsProgramCause L rule what before t)
     ⊎ ((what ≡ NumberRange) × (is_digits t ≡ true) × (L.entry < number_of (text t)))
 
--- What a trace file keeps: its program is within the limits, it starts with one number for each variable, and no number of
+-- What a trace file keeps: its program is within the limits, it starts with one number for each variable, and no number
+-- of
 -- a row is too great.
 pub record IsTraceWithin (L : Limits) (x : TraceFile) : Type 0 where
   pub program : IsWithin L x.program

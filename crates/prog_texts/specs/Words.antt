@@ -74,13 +74,15 @@ is_fresh last = bytes_eq last (codes ";") || bytes_eq last (codes "{") || bytes_
 
 abbrev pub begins_statement : Counted → Bool
 begins_statement t =
-    says (codes "havoc") t || says (codes "assume") t || says (codes "assert") t || says (codes "if") t || says (codes "while") t || says (codes "skip") t
+    says (codes "havoc") t || says (codes "assume") t || says (codes "assert") t || says (codes "if") t || says
+    (codes "while") t || says (codes "skip") t
     || is_variable t && is_fresh t.before.last
 
 -- an atom begins with `?` or an operand, behind one of these, of which `(` opens no list of a side
 abbrev pub is_asking : List ℕ → Bool
 is_asking last =
-    bytes_eq last (codes "assume") || bytes_eq last (codes "if") || bytes_eq last (codes "while") || bytes_eq last (codes "!")
+    bytes_eq last (codes "assume") || bytes_eq last (codes "if") || bytes_eq last (codes "while") || bytes_eq last
+    (codes "!")
     || bytes_eq last (codes "(") || bytes_eq last (codes "&&") || bytes_eq last (codes "||")
 
 abbrev pub begins_atom : Counted → Bool

@@ -1,4 +1,5 @@
 -- Each generated cone has a canonical list: a basis, sorted.
+-- Index: canonical_exists, canonical_solutions_exist, chosen_exist.
 use Rattle.std.proofs.Common.{◌≡◌, ◌⊎◌, ℕ, zero, suc, List, [], ◌∷◌, length, inl, inr, ⊎_elim, sym, ◌∙◌, refl, arith, subst, get_or, ap₂}
 use Rattle.std.specs.Prelude.{All, AllPairs, Contains}
 use Rattle.std.proofs.lemmas.List.Elements.{All-nil, All-head, All-tail, All-cons, All-contains, Contains-get_or}
@@ -49,7 +50,8 @@ module _ {V : Type 0} {R : Semiring V} (laws : SemiringLaws R) where
       k)
       h
 
-  pairs_cons : (x : List V) (xs : List (List V)) → All (RowBelow R x) xs → AllPairs (RowBelow R) xs → AllPairs (RowBelow R) (x ∷ xs)
+  pairs_cons : (x : List V) (xs : List (List V)) → All (RowBelow R x) xs → AllPairs (RowBelow R) xs →
+      AllPairs (RowBelow R) (x ∷ xs)
   pairs_cons x xs h k zero zero d lt l = absurd (omega arith)
   pairs_cons x xs h k zero (suc j) d lt l = h j d (omega arith)
   pairs_cons x xs h k (suc i) zero d lt l = absurd (omega arith)
@@ -63,7 +65,8 @@ module _ {V : Type 0} {R : Semiring V} (laws : SemiringLaws R) where
     first : Contains list x
     rest : (z : List V) → Contains xs z → Contains list z
 
-  inserted : (n : ℕ) (x : List V) (xs : List (List V)) → length x ≡ n → All (λ g. length g ≡ n) xs → AllPairs (RowBelow R) xs → Inserted x xs
+  inserted : (n : ℕ) (x : List V) (xs : List (List V)) → length x ≡ n → All (λ g. length g ≡ n) xs →
+      AllPairs (RowBelow R) xs → Inserted x xs
   inserted n x [] l w h = record {
     list = x ∷ [];
     ascending = pairs_cons x [] (All-nil (RowBelow R x)) h;
@@ -74,7 +77,8 @@ module _ {V : Type 0} {R : Semiring V} (laws : SemiringLaws R) where
   inserted n x (y ∷ ys) l w h = ⊎_elim
       (λ b. record {
         list = x ∷ (y ∷ ys);
-        ascending = pairs_cons x (y ∷ ys) (All-cons (RowBelow R x) y ys b (λ k d m. row_below_trans x y (get_or ys k d) b (behind k d m))) h;
+        ascending = pairs_cons x (y ∷ ys) (All-cons (RowBelow R x) y ys b
+            (λ k d m. row_below_trans x y (get_or ys k d) b (behind k d m))) h;
         there = λ z c. Contains-cons_cases x (y ∷ ys) z c;
         first = (0, omega arith, refl);
         rest = λ z c. Contains-cons x (y ∷ ys) z c;
@@ -104,9 +108,12 @@ module _ {V : Type 0} {R : Semiring V} (laws : SemiringLaws R) where
             (λ e. subst (RowBelow R y) e b)
             (λ c. All-contains (RowBelow R y) ys (get_or r.list k d) behind c)
             (r.there (get_or r.list k d) (Contains-get_or r.list k d m))) r.ascending;
-        there = λ z c. ⊎_elim (λ e. inr (0, omega arith, e)) (λ s. ⊎_elim (λ e. inl e) (λ t. inr (Contains-cons y ys z t)) (r.there z s)) (Contains-cons_cases y r.list z c);
+        there = λ z c. ⊎_elim (λ e. inr (0, omega arith, e))
+            (λ s. ⊎_elim (λ e. inl e) (λ t. inr (Contains-cons y ys z t)) (r.there z s))
+            (Contains-cons_cases y r.list z c);
         first = Contains-cons y r.list x r.first;
-        rest = λ z c. ⊎_elim (λ e. (0, omega arith, e)) (λ s. Contains-cons y r.list z (r.rest z s)) (Contains-cons_cases y ys z c);
+        rest = λ z c. ⊎_elim (λ e. (0, omega arith, e)) (λ s. Contains-cons y r.list z (r.rest z s))
+            (Contains-cons_cases y ys z c);
       }
 
   -- the elements of a list in their order, each once
@@ -125,24 +132,30 @@ module _ {V : Type 0} {R : Semiring V} (laws : SemiringLaws R) where
   }
   ordered n (x ∷ xs) w =
       let r = ordered n xs (All-tail (λ g. length g ≡ n) x xs w) in
-      let s = inserted n x r.list (All-head (λ g. length g ≡ n) x xs w) (λ k d l. All-contains (λ g. length g ≡ n) xs (get_or r.list k d) (All-tail (λ g. length g ≡ n) x xs w) (r.there (get_or r.list k d) (Contains-get_or r.list k d l))) r.ascending in
+      let s = inserted n x r.list (All-head (λ g. length g ≡ n) x xs w)
+      (λ k d l. All-contains (λ g. length g ≡ n) xs (get_or r.list k d) (All-tail (λ g. length g ≡ n) x xs w)
+      (r.there (get_or r.list k d) (Contains-get_or r.list k d l))) r.ascending in
       record {
         list = s.list;
         ascending = s.ascending;
         there = λ z c. ⊎_elim (λ e. (0, omega arith, e)) (λ t. Contains-cons x xs z (r.there z t)) (s.there z c);
-        back = λ z c. ⊎_elim (λ e. subst (Contains s.list) e s.first) (λ t. s.rest z (r.back z t)) (Contains-cons_cases x xs z c);
+        back = λ z c. ⊎_elim (λ e. subst (Contains s.list) e s.first) (λ t. s.rest z (r.back z t))
+            (Contains-cons_cases x xs z c);
       }
 
 module _ {V : Type 0} {R : Semiring V} (laws : SemiringLaws R) (n : ℕ) where
   -- each generated cone has a canonical list
-  pub canonical_exists : (rows : List (List V)) → All (λ g. length g ≡ n) rows → (others : List (List V)) × IsCanonical R (IsCombination R n rows) others
+  pub canonical_exists : (rows : List (List V)) → All (λ g. length g ≡ n) rows →
+      (others : List (List V)) × IsCanonical R (IsCombination R n rows) others
   canonical_exists rows w = (
     o.list,
     record {
       ascending = o.ascending;
-      normal = λ k d l. All-contains (IsNormal R) b.base (get_or o.list k d) b.normal (o.there (get_or o.list k d) (Contains-get_or o.list k d l));
+      normal = λ k d l. All-contains (IsNormal R) b.base (get_or o.list k d) b.normal
+          (o.there (get_or o.list k d) (Contains-get_or o.list k d l));
       extreme = λ k d l. extreme (get_or o.list k d) (o.there (get_or o.list k d) (Contains-get_or o.list k d l));
-      complete = λ x nx ex. o.back x (Contains-extreme laws n b.base x b.wide b.normal nx (IsExtreme-same (IsCombination R n rows) (IsCombination R n b.base) b.same x ex));
+      complete = λ x nx ex. o.back x (Contains-extreme laws n b.base x b.wide b.normal nx
+          (IsExtreme-same (IsCombination R n rows) (IsCombination R n b.base) b.same x ex));
     },
   )
     where
@@ -155,17 +168,20 @@ module _ {V : Type 0} {R : Semiring V} (laws : SemiringLaws R) (n : ℕ) where
       extreme : (x : List V) → Contains b.base x → IsExtreme R (IsCombination R n rows) x
       extreme x c =
           IsExtreme-same (IsCombination R n b.base) (IsCombination R n rows) (λ y. ((b.same y).1, (b.same y).0)) x
-          (subst (IsExtreme R (IsCombination R n b.base)) c.2 (extreme_from_alone laws n b.base c.0 x b.wide c.1 (b.normal c.0 x c.1) (b.alone c.0 x c.1)))
+          (subst (IsExtreme R (IsCombination R n b.base)) c.2
+          (extreme_from_alone laws n b.base c.0 x b.wide c.1 (b.normal c.0 x c.1) (b.alone c.0 x c.1)))
 
   -- and so have the solutions of a system
-  pub canonical_solutions_exist : (system : List (Inequality V)) → All (IsIn n) system → (rows : List (List V)) × IsCanonical R (Solves R n system) rows
+  pub canonical_solutions_exist : (system : List (Inequality V)) → All (IsIn n) system →
+      (rows : List (List V)) × IsCanonical R (Solves R n system) rows
   canonical_solutions_exist system inside =
       let r = solutions_generated laws n system inside in
       let c = canonical_exists r.rows r.wide in
       (c.0, IsCanonical-same (IsCombination R n r.rows) (Solves R n system) (λ x. ((r.same x).1, (r.same x).0)) c.0 c.1)
 
   -- the elements with a decided property can be listed
-  pub chosen_exist : {X : Type 0} (P : X → Type 0) → ((x : X) → Decided (P x)) → (xs : List X) → (ys : List X) × AreChosen P xs ys
+  pub chosen_exist : {X : Type 0} (P : X → Type 0) → ((x : X) → Decided (P x)) → (xs : List X) →
+      (ys : List X) × AreChosen P xs ys
   chosen_exist P d [] = ([], refl)
   chosen_exist P d (x ∷ xs) =
       let r = chosen_exist P d xs in

@@ -20,7 +20,8 @@ module _ {V : Type 0} (R : Semiring V) (n : ℕ) where
     pub multiples : (c : V) (x : List V) → length x ≡ n → f (scaled R c x) ≡ scaled R c (f x)
 
 module _ {V : Type 0} {R : Semiring V} (laws : SemiringLaws R) (n : ℕ) where
-  combined-map : (f : List V → List V) → IsLinear R n f → (cs : List V) (rows : List (List V)) → All (λ g. length g ≡ n) rows → f (combined R n cs rows) ≡ combined R n cs (map f rows)
+  combined-map : (f : List V → List V) → IsLinear R n f → (cs : List V) (rows : List (List V)) →
+      All (λ g. length g ≡ n) rows → f (combined R n cs rows) ≡ combined R n cs (map f rows)
   combined-map f h [] rows w = h.bottom
   combined-map f h (c ∷ cs) [] w = h.bottom
   combined-map f h (c ∷ cs) (g ∷ rows) w =
@@ -30,7 +31,8 @@ module _ {V : Type 0} {R : Semiring V} (laws : SemiringLaws R) (n : ℕ) where
       ∙ ap₂ (joined R) (h.multiples c g lg) (combined-map f h cs rows rest)
 
   -- the combinations of the images are the images of the combinations
-  pub image_by_rows : (f : List V → List V) → IsLinear R n f → (rows : List (List V)) → All (λ g. length g ≡ n) rows → (x : List V) → IsCombination R n (map f rows) x ↔ ((y : List V) × IsCombination R n rows y × (x ≡ f y))
+  pub image_by_rows : (f : List V → List V) → IsLinear R n f → (rows : List (List V)) → All (λ g. length g ≡ n) rows →
+      (x : List V) → IsCombination R n (map f rows) x ↔ ((y : List V) × IsCombination R n rows y × (x ≡ f y))
   image_by_rows f h rows w x = (
     λ c. (
       combined R n c.coefficients rows,
@@ -71,12 +73,17 @@ module _ {V : Type 0} {R : Semiring V} (laws : SemiringLaws R) (n : ℕ) where
   IsLinear-assigned i from c = record {
     lengths = λ x l. length-set x i (R.times c (entry R x from)) ∙ l;
     bottom = ap (set (bottom R n) i) (ap (R.times c) (entry-bottom R n from) ∙ times_zero laws c) ∙ set-bottom i;
-    sums = λ x y l m. ap (set (joined R x y) i) (ap (R.times c) (entry-joined laws x y (l ∙ sym m) from) ∙ laws.distributes c (entry R x from) (entry R y from)) ∙ set-joined x y i (R.times c (entry R x from)) (R.times c (entry R y from));
-    multiples = λ d x l. ap (set (scaled R d x) i) (ap (R.times c) (entry-scaled laws d x from) ∙ times_swap c d (entry R x from)) ∙ sym (map-set (R.times d) x i (R.times c (entry R x from)));
+    sums = λ x y l m. ap (set (joined R x y) i) (ap (R.times c) (entry-joined laws x y (l ∙ sym m) from)
+        ∙ laws.distributes c (entry R x from) (entry R y from)) ∙ set-joined x y i (R.times c (entry R x from))
+        (R.times c (entry R y from));
+    multiples = λ d x l. ap (set (scaled R d x) i)
+        (ap (R.times c) (entry-scaled laws d x from) ∙ times_swap c d (entry R x from))
+        ∙ sym (map-set (R.times d) x i (R.times c (entry R x from)));
   }
 
   -- an assignment is the combinations of the rows, each so changed
-  pub assign_by_rows : (i from : ℕ) (c : V) (rows : List (List V)) → All (λ g. length g ≡ n) rows → (x : List V) → IsCombination R n (map (assigned R i from c) rows) x ↔ InAssign R (IsCombination R n rows) i from c x
+  pub assign_by_rows : (i from : ℕ) (c : V) (rows : List (List V)) → All (λ g. length g ≡ n) rows → (x : List V) →
+      IsCombination R n (map (assigned R i from c) rows) x ↔ InAssign R (IsCombination R n rows) i from c x
   assign_by_rows i from c rows w x =
       let image = image_by_rows (assigned R i from c) (IsLinear-assigned i from c) rows w x in (
         λ h. let s = image.0 h in record { before = s.0; member = s.1; replaced = s.2 },

@@ -21,19 +21,23 @@ abbrev pub member : ℕ → ℕ → Bool
 member set i = test (decide_has set i)
 
 pub Keeps-member : (edges : List Hyperedge) (set : ℕ) → IsClosed edges set → All (Keeps (member set)) edges
-Keeps-member edges set h k d l tail i here = test_true (decide_has set i) (h k d l (λ j g. true_test (decide_has set j) (tail j g)) i here)
+Keeps-member edges set h k d l tail i here = test_true (decide_has set i)
+    (h k d l (λ j g. true_test (decide_has set j) (tail j g)) i here)
 
 -- what is reached from a member of a closed set is a member
 pub closed_has : (edges : List Hyperedge) (set u v : ℕ) → IsClosed edges set → Has set u → Reaches edges u v → Has set v
-closed_has edges set u v h here r = true_test (decide_has set v) (r (member set) (test_true (decide_has set u) here) (Keeps-member edges set h))
+closed_has edges set u v h here r = true_test (decide_has set v)
+    (r (member set) (test_true (decide_has set u) here) (Keeps-member edges set h))
 
 -- a node reaches itself
 pub Reaches-itself : (edges : List Hyperedge) (u : ℕ) → Reaches edges u u
 Reaches-itself edges u set here keeps = here
 
 -- the head of a hyperedge whose tail is reached is reached
-pub Reaches-head : (edges : List Hyperedge) (edge : Hyperedge) (u : ℕ) → Contains edges edge → ((j : ℕ) → Has edge.tail j → Reaches edges u j) → (i : ℕ) → Has edge.head i → Reaches edges u i
-Reaches-head edges edge u c tail i h set here keeps = All-contains (Keeps set) edges edge keeps c (λ j g. tail j g set here keeps) i h
+pub Reaches-head : (edges : List Hyperedge) (edge : Hyperedge) (u : ℕ) → Contains edges edge →
+    ((j : ℕ) → Has edge.tail j → Reaches edges u j) → (i : ℕ) → Has edge.head i → Reaches edges u i
+Reaches-head edges edge u c tail i h set here keeps =
+    All-contains (Keeps set) edges edge keeps c (λ j g. tail j g set here keeps) i h
 
 -- what is reached from a reached node is reached
 pub Reaches-over : (edges : List Hyperedge) (u v w : ℕ) → Reaches edges u v → Reaches edges v w → Reaches edges u w

@@ -21,45 +21,65 @@ module _ {V : Type 0} {R : Semiring V} (laws : SemiringLaws R) where
   differ x y i = test (differs x y i)
 
   -- They keep each tangent hyperedge at x where y is a solution below x.
-  KeepsTangent-differ : (x y : List V) (p : Inequality V) → length p.left ≡ length x → length p.right ≡ length x → length y ≡ length x → Below R y x → IsTrueAt R p y → KeepsTangent R x (differ x y) p
+  KeepsTangent-differ : (x y : List V) (p : Inequality V) → length p.left ≡ length x → length p.right ≡ length x →
+      length y ≡ length x → Below R y x → IsTrueAt R p y → KeepsTangent R x (differ x y) p
   unfolding differ
-  KeepsTangent-differ x y p left right same below holds tight tail i head = test_true (differs x y i) (λ e. moved e (found e))
+  KeepsTangent-differ x y p left right same below holds tight tail i head =
+      test_true (differs x y i) (λ e. moved e (found e))
     where
       finite : dot R p.left x ≢ R.zero
       finite z = tight.finite (sym tight.equal ∙ z)
 
-      found : entry R y i ≡ entry R x i → (j : ℕ) × (j < length y) × Le R (R.times (entry R p.left i) (entry R y i)) (R.times (entry R p.right j) (entry R y j))
+      found : entry R y i ≡ entry R x i → (j : ℕ) × (j < length y) × Le R (R.times (entry R p.left i) (entry R y i))
+          (R.times (entry R p.right j) (entry R y j))
       found e = holds i (subst (λ n. i < n) (sym same) (attains_within laws p.left x i finite head))
 
-      moved : entry R y i ≡ entry R x i → (j : ℕ) × (j < length y) × Le R (R.times (entry R p.left i) (entry R y i)) (R.times (entry R p.right j) (entry R y j)) → ⊥
+      moved : entry R y i ≡ entry R x i → (j : ℕ) × (j < length y) × Le R (R.times (entry R p.left i) (entry R y i))
+          (R.times (entry R p.right j) (entry R y j)) → ⊥
       moved e r =
           let j = r.0 in
-          let up : Le R (dot R p.right x) (R.times (entry R p.right r.0) (entry R y r.0)) = subst (λ v. Le R v (R.times (entry R p.right r.0) (entry R y r.0))) (ap (R.times (entry R p.left i)) e ∙ head ∙ tight.equal) r.2 in
-          let step : Le R (R.times (entry R p.right r.0) (entry R y r.0)) (R.times (entry R p.right r.0) (entry R x r.0)) = times_mono laws (entry R p.right r.0) _ _ (below r.0) in
-          let down : Le R (R.times (entry R p.right r.0) (entry R x r.0)) (dot R p.right x) = term_below laws p.right x right r.0 (subst (λ n. r.0 < n) same r.1) in
-          let whole : R.times (entry R p.right r.0) (entry R x r.0) ≡ dot R p.right x = le_antisym laws _ _ down (le_trans laws _ _ _ up step) in
-          let part : R.times (entry R p.right r.0) (entry R y r.0) ≡ dot R p.right x = le_antisym laws _ _ (le_trans laws _ _ _ step down) up in
+          let up : Le R (dot R p.right x) (R.times (entry R p.right r.0) (entry R y r.0)) =
+          subst (λ v. Le R v (R.times (entry R p.right r.0) (entry R y r.0)))
+          (ap (R.times (entry R p.left i)) e ∙ head ∙ tight.equal) r.2 in
+          let step : Le R (R.times (entry R p.right r.0) (entry R y r.0))
+          (R.times (entry R p.right r.0) (entry R x r.0)) = times_mono laws (entry R p.right r.0) _ _ (below r.0) in
+          let down : Le R (R.times (entry R p.right r.0) (entry R x r.0)) (dot R p.right x) =
+          term_below laws p.right x right r.0 (subst (λ n. r.0 < n) same r.1) in
+          let whole : R.times (entry R p.right r.0) (entry R x r.0) ≡ dot R p.right x =
+          le_antisym laws _ _ down (le_trans laws _ _ _ up step) in
+          let part : R.times (entry R p.right r.0) (entry R y r.0) ≡ dot R p.right x =
+          le_antisym laws _ _ (le_trans laws _ _ _ step down) up in
           true_test (differs x y r.0) (tail r.0 whole)
-          (cancel_times laws (entry R p.right r.0) _ _ (left_factor_finite laws (entry R p.right r.0) (entry R x r.0) (dot R p.right x) whole tight.finite) (part ∙ sym whole))
+          (cancel_times laws (entry R p.right r.0) _ _
+          (left_factor_finite laws (entry R p.right r.0) (entry R x r.0) (dot R p.right x) whole tight.finite)
+          (part ∙ sym whole))
 
   -- a node that is reached from every node is a type
-  pub IsType-reached : (n : ℕ) (system : List (Inequality V)) (x : List V) (t : ℕ) → All (IsIn n) system → Solves R n system x → entry R x t ≢ R.zero → ((u : ℕ) → entry R x u ≢ R.zero → TangentReaches R system x u t) → IsType R (Solves R n system) x t
+  pub IsType-reached : (n : ℕ) (system : List (Inequality V)) (x : List V) (t : ℕ) → All (IsIn n) system →
+      Solves R n system x → entry R x t ≢ R.zero → ((u : ℕ) → entry R x u ≢ R.zero → TangentReaches R system x u t) →
+      IsType R (Solves R n system) x t
   unfolding differ
   IsType-reached n system x t inside solves finite reached = record {
     member = solves;
     finite = finite;
-    least = λ y other below agrees. same_rows R y x (other.wide ∙ sym solves.wide) (λ i. stable (laws.discrete (entry R y i) (entry R x i)) (alike y other below agrees i));
+    least = λ y other below agrees. same_rows R y x (other.wide ∙ sym solves.wide)
+        (λ i. stable (laws.discrete (entry R y i) (entry R x i)) (alike y other below agrees i));
   }
     where
-      alike : (y : List V) → Solves R n system y → Below R y x → entry R y t ≡ entry R x t → (i : ℕ) → (entry R y i ≡ entry R x i → ⊥) → ⊥
+      alike : (y : List V) → Solves R n system y → Below R y x → entry R y t ≡ entry R x t → (i : ℕ) →
+          (entry R y i ≡ entry R x i → ⊥) → ⊥
       alike y other below agrees i f =
           true_test (differs x y t)
-          (reached i (λ z. f (below_zero laws _ (subst (Le R (entry R y i)) z (below i)) ∙ sym z)) (differ x y) (test_true (differs x y i) f)
-          (λ k d l. KeepsTangent-differ x y (get_or system k d) ((inside k d l).left ∙ sym solves.wide) ((inside k d l).right ∙ sym solves.wide) (other.wide ∙ sym solves.wide) below (other.holds k d l)))
+          (reached i (λ z. f (below_zero laws _ (subst (Le R (entry R y i)) z (below i)) ∙ sym z)) (differ x y)
+          (test_true (differs x y i) f)
+          (λ k d l. KeepsTangent-differ x y (get_or system k d) ((inside k d l).left ∙ sym solves.wide)
+          ((inside k d l).right ∙ sym solves.wide) (other.wide ∙ sym solves.wide) below (other.holds k d l)))
           agrees
 
   -- a type is reached from every node
-  pub reached_from_IsType : (n : ℕ) (system : List (Inequality V)) (x : List V) (t : ℕ) → All (IsIn n) system → IsType R (Solves R n system) x t → (u : ℕ) → entry R x u ≢ R.zero → TangentReaches R system x u t
+  pub reached_from_IsType : (n : ℕ) (system : List (Inequality V)) (x : List V) (t : ℕ) → All (IsIn n) system →
+      IsType R (Solves R n system) x t → (u : ℕ) → entry R x u ≢ R.zero → TangentReaches R system x u t
   reached_from_IsType n system x t inside h u finite set here keeps = stable (decide_true (set t)) (λ out.
-      let same = h.least (weakened R set x) (Solves-weakened laws n system set x inside h.member keeps) (Below-weakened laws set x) (weakened_out R set x t out) in
+      let same = h.least (weakened R set x) (Solves-weakened laws n system set x inside h.member keeps)
+      (Below-weakened laws set x) (weakened_out R set x t out) in
       delta_moves laws (entry R x u) finite (sym (weakened_in laws set x u here) ∙ ap (λ y. entry R y u) same))

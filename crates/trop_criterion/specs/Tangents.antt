@@ -29,7 +29,8 @@ IsTangentOf R x p None = IsTight R p x → ⊥
 IsTangentOf R x p (Some edge) = TangentEdge R p x edge
 
 -- the hyperedges of the inequalities that give one, in their order
-pub record AreTangents {V : Type 0} (R : Semiring V) (system : List (Inequality V)) (x : List V) (edges : List Hyperedge) : Type 0 where
+pub record AreTangents {V : Type 0} (R : Semiring V) (system : List (Inequality V)) (x : List V)
+    (edges : List Hyperedge) : Type 0 where
   pub each : List (Option Hyperedge)
   pub given : AllZip (IsTangentOf R x) system each
   pub listed : edges ≡ filter_map (λ edge. edge) each

@@ -31,26 +31,39 @@ module _ {V : Type 0} {R : Semiring V} (laws : SemiringLaws R) where
   high_none t j v g c f = absurd (Contains-none g c)
 
   -- one more row whose entry j is the zero
-  high_over : (rows others : List (List V)) (h : List V) (t j : ℕ) (v : V) → ((g : List V) → Contains others g → (h ≡ g) ⊎ Contains rows g) → entry R h j ≡ R.zero → IsHigh R rows t j v → IsHigh R others t j v
-  high_over rows others h t j v cases z high g c f = ⊎_elim (λ e. absurd (f (ap (λ r. entry R r j) (sym e) ∙ z))) (λ q. high g q f) (cases g c)
+  high_over : (rows others : List (List V)) (h : List V) (t j : ℕ) (v : V) →
+      ((g : List V) → Contains others g → (h ≡ g) ⊎ Contains rows g) → entry R h j ≡ R.zero → IsHigh R rows t j v →
+      IsHigh R others t j v
+  high_over rows others h t j v cases z high g c f =
+      ⊎_elim (λ e. absurd (f (ap (λ r. entry R r j) (sym e) ∙ z))) (λ q. high g q f) (cases g c)
 
   -- one more row whose entry j is finite
-  high_with : (rows others : List (List V)) (h : List V) (t j : ℕ) (v : V) → ((g : List V) → Contains others g → (h ≡ g) ⊎ Contains rows g) → entry R h j ≢ R.zero → IsHigh R rows t j v → IsHigh R others t j (R.plus v (R.times (entry R h t) (R.inverse (entry R h j))))
+  high_with : (rows others : List (List V)) (h : List V) (t j : ℕ) (v : V) →
+      ((g : List V) → Contains others g → (h ≡ g) ⊎ Contains rows g) → entry R h j ≢ R.zero → IsHigh R rows t j v →
+      IsHigh R others t j (R.plus v (R.times (entry R h t) (R.inverse (entry R h j))))
   high_with rows others h t j v cases p high g c f = ⊎_elim
-      (λ e. subst (λ r. Le R (entry R r t) (R.times (R.plus v (R.times (entry R h t) (R.inverse (entry R h j)))) (entry R r j))) e
-      (subst (λ a. Le R a (R.times (R.plus v (R.times (entry R h t) (R.inverse (entry R h j)))) (entry R h j))) (redo_times laws (entry R h j) (entry R h t) p) (times_mono_left laws (entry R h j) _ _ (le-plus_right laws _ _))))
+      (λ e. subst (λ r. Le R (entry R r t) (R.times (R.plus v (R.times (entry R h t) (R.inverse (entry R h j))))
+      (entry R r j))) e
+      (subst (λ a. Le R a (R.times (R.plus v (R.times (entry R h t) (R.inverse (entry R h j)))) (entry R h j)))
+      (redo_times laws (entry R h j) (entry R h t) p)
+      (times_mono_left laws (entry R h j) _ _ (le-plus_right laws _ _))))
       (λ q. le_trans laws _ _ _ (high g q f) (times_mono_left laws (entry R g j) _ _ (le-plus_left laws _ _)))
       (cases g c)
 
-  next : (rows : List (List V)) (k : ℕ) (h : List V) → k < length rows → h ≡ get_or rows k h → (g : List V) → Contains (take (k + 1) rows) g → (h ≡ g) ⊎ Contains (take k rows) g
+  next : (rows : List (List V)) (k : ℕ) (h : List V) → k < length rows → h ≡ get_or rows k h → (g : List V) →
+      Contains (take (k + 1) rows) g → (h ≡ g) ⊎ Contains (take k rows) g
   next rows k h l e g c = ⊎_elim (λ q. inr q) (λ q. inl q)
-      (Contains-push_cases (take k rows) h g (subst (λ list. Contains list g) (take_more rows k h l ∙ ap (λ r. take k rows ++ r ∷ []) (sym e)) c))
+      (Contains-push_cases (take k rows) h g (subst (λ list. Contains list g)
+      (take_more rows k h l ∙ ap (λ r. take k rows ++ r ∷ []) (sym e)) c))
 
   -- the same in a loop over the rows
-  pub high_skip : (rows : List (List V)) (k : ℕ) (h : List V) (t j : ℕ) (v : V) → k < length rows → h ≡ get_or rows k h → entry R h j ≡ R.zero → IsHigh R (take k rows) t j v → IsHigh R (take (k + 1) rows) t j v
+  pub high_skip : (rows : List (List V)) (k : ℕ) (h : List V) (t j : ℕ) (v : V) → k < length rows →
+      h ≡ get_or rows k h → entry R h j ≡ R.zero → IsHigh R (take k rows) t j v → IsHigh R (take (k + 1) rows) t j v
   high_skip rows k h t j v l e z high = high_over (take k rows) (take (k + 1) rows) h t j v (next rows k h l e) z high
 
-  pub high_more : (rows : List (List V)) (k : ℕ) (h : List V) (t j : ℕ) (v : V) → k < length rows → h ≡ get_or rows k h → entry R h j ≢ R.zero → IsHigh R (take k rows) t j v → IsHigh R (take (k + 1) rows) t j (R.plus v (R.times (entry R h t) (R.inverse (entry R h j))))
+  pub high_more : (rows : List (List V)) (k : ℕ) (h : List V) (t j : ℕ) (v : V) → k < length rows →
+      h ≡ get_or rows k h → entry R h j ≢ R.zero → IsHigh R (take k rows) t j v →
+      IsHigh R (take (k + 1) rows) t j (R.plus v (R.times (entry R h t) (R.inverse (entry R h j))))
   high_more rows k h t j v l e p high = high_with (take k rows) (take (k + 1) rows) h t j v (next rows k h l e) p high
 
   -- a value that is high enough, and no larger than twice the rows
@@ -129,7 +142,8 @@ module _ {V : Type 0} {R : Semiring V} (laws : SemiringLaws R) (n : ℕ) (rows :
   unfolding barrier
   IsBarrier-barrier = record {
     wide = length-listed R (λ j. (entry_of j).value) n;
-    each = λ j l. subst (IsBarrierAt R rows x t j) (sym (entry-listed R (λ j. (entry_of j).value) n j l)) (entry_of j).is;
+    each = λ j l. subst (IsBarrierAt R rows x t j) (sym (entry-listed R (λ j. (entry_of j).value) n j l))
+        (entry_of j).is;
   }
 
   -- a barrier need not be larger than twice what is given, and one
@@ -137,4 +151,6 @@ module _ {V : Type 0} {R : Semiring V} (laws : SemiringLaws R) (n : ℕ) (rows :
   unfolding barrier
   row_size-barrier m p q =
       row_size-each R (listed R (λ j. (entry_of j).value) n) (2 * m + 1)
-      (λ j l. subst (λ v. R.size v ≤ 2 * m + 1) (sym (entry-listed R (λ j. (entry_of j).value) n j (omega (arith, length-listed R (λ j. (entry_of j).value) n)))) ((entry_of j).small m p q))
+      (λ j l. subst (λ v. R.size v ≤ 2 * m + 1) (sym
+      (entry-listed R (λ j. (entry_of j).value) n j (omega (arith, length-listed R (λ j. (entry_of j).value) n))))
+      ((entry_of j).small m p q))

@@ -41,7 +41,10 @@ module _ {X : Type 0} (D : X → X → Type 0) where
   pub pairs_chosen : (P : X → Type 0) (xs ys : List X) → AreChosen P xs ys → AllPairs D xs → AllPairs D ys
   pairs_chosen P [] ys h k = subst (AllPairs D) (sym h) k
   pairs_chosen P (x ∷ xs) ys h k = ⊎_elim
-      (λ a. subst (AllPairs D) (sym a.1.1) (pairs_cons x a.1.0 (λ i d l. All-contains (D x) xs (get_or a.1.0 i d) (pairs_head x xs k) (from_chosen P xs a.1.0 a.1.2 (get_or a.1.0 i d) (Contains-get_or a.1.0 i d l)).0) (pairs_chosen P xs a.1.0 a.1.2 (pairs_tail x xs k))))
+      (λ a. subst (AllPairs D) (sym a.1.1) (pairs_cons x a.1.0
+      (λ i d l. All-contains (D x) xs (get_or a.1.0 i d) (pairs_head x xs k)
+      (from_chosen P xs a.1.0 a.1.2 (get_or a.1.0 i d) (Contains-get_or a.1.0 i d l)).0)
+      (pairs_chosen P xs a.1.0 a.1.2 (pairs_tail x xs k))))
       (λ a. pairs_chosen P xs ys a.1 (pairs_tail x xs k))
       h
 
@@ -53,31 +56,50 @@ module _ {V : Type 0} {R : Semiring V} (laws : SemiringLaws R) (n : ℕ) where
       (cases_eq j i))
 
   -- an extreme vector of the whole space in normal form, finite at i
-  finite_is_unit : (i : ℕ) (u : List V) → i < n → IsNormal R u → IsExtreme R (Solves R n []) u → entry R u i ≢ R.zero → set (bottom R n) i R.one ≡ u
+  finite_is_unit : (i : ℕ) (u : List V) → i < n → IsNormal R u → IsExtreme R (Solves R n []) u → entry R u i ≢ R.zero →
+      set (bottom R n) i R.one ≡ u
   finite_is_unit i u l normal extreme f =
       let c = (units_below_canonical laws n).complete u normal extreme in
-      let at : IsUnit R n (n - 1 - c.0) u = subst (IsUnit R n (n - 1 - c.0)) c.2 (unit_at R n n (omega arith) c.0 u (omega (arith, c.1, length-units R n n))) in
+      let at : IsUnit R n (n - 1 - c.0) u = subst (IsUnit R n (n - 1 - c.0)) c.2
+      (unit_at R n n (omega arith) c.0 u (omega (arith, c.1, length-units R n n))) in
       let same : i ≡ n - 1 - c.0 = ⊎_elim (λ e. e) (λ ne. absurd (f (at.elsewhere i ne))) (cases_eq i (n - 1 - c.0)) in
       unit_same i (set (bottom R n) i R.one) u (IsUnit-set R n i l) (subst (λ j. IsUnit R n j u) (sym same) at)
 
-  one_bound : (i : ℕ) (bounds : List (Inequality V)) → i < n → AreBounds R n (IsCombination R n []) i bounds → length bounds ≤ 1
+  one_bound : (i : ℕ) (bounds : List (Inequality V)) → i < n → AreBounds R n (IsCombination R n []) i bounds →
+      length bounds ≤ 1
   one_bound i bounds l h =
       let at_most : length h.finite ≤ length (set (bottom R n) i R.one ∷ []) =
-      no_longer h.finite (set (bottom R n) i R.one ∷ []) (ascending_distinct R h.finite (pairs_chosen (RowBelow R) (λ u. entry R u i ≢ R.zero) h.polar h.finite h.chosen h.canonical.ascending))
+      no_longer h.finite (set (bottom R n) i R.one ∷ [])
+      (ascending_distinct R h.finite (pairs_chosen (RowBelow R)
+      (λ u. entry R u i ≢ R.zero) h.polar h.finite h.chosen h.canonical.ascending))
       (λ k d m.
-      let c = from_chosen (λ u. entry R u i ≢ R.zero) h.polar h.finite h.chosen (get_or h.finite k d) (Contains-get_or h.finite k d m) in (
+      let c = from_chosen (λ u. entry R u i ≢ R.zero) h.polar h.finite h.chosen (get_or h.finite k d)
+      (Contains-get_or h.finite k d m) in (
         0,
         omega arith,
-        finite_is_unit i (get_or h.finite k d) l (All-contains (IsNormal R) h.polar (get_or h.finite k d) h.canonical.normal c.0)
-            (IsExtreme-same (InPolar R n (IsCombination R n []) i) (Solves R n []) (λ v. ((polar_system_is_polar laws n i [] (All-nil (λ g. length g ≡ n)) v).1, (polar_system_is_polar laws n i [] (All-nil (λ g. length g ≡ n)) v).0)) (get_or h.finite k d)
-            (All-contains (IsExtreme R (InPolar R n (IsCombination R n []) i)) h.polar (get_or h.finite k d) h.canonical.extreme c.0))
+        finite_is_unit i (get_or h.finite k d) l (All-contains (IsNormal R) h.polar
+            (get_or h.finite k d) h.canonical.normal c.0)
+            (IsExtreme-same (InPolar R n (IsCombination R n []) i) (Solves R n [])
+            (λ v. (
+              (polar_system_is_polar laws n i [] (All-nil (λ g. length g ≡ n)) v).1,
+              (polar_system_is_polar laws n i [] (All-nil (λ g. length g ≡ n)) v).0,
+            )) (get_or h.finite k d)
+            (All-contains (IsExtreme R (InPolar R n (IsCombination R n []) i)) h.polar
+            (get_or h.finite k d) h.canonical.extreme c.0))
             c.1,
       )) in
       omega (arith, ap length h.read, length-map h.finite (bound_of R i))
 
-  pub length_external_bottom : (m : ℕ) (system : List (Inequality V)) → m ≤ n → IsExternalUpTo R n (IsCombination R n []) m system → length system ≤ m
+  pub length_external_bottom : (m : ℕ) (system : List (Inequality V)) → m ≤ n →
+      IsExternalUpTo R n (IsCombination R n []) m system → length system ≤ m
   length_external_bottom zero system l h = omega (arith, ap length h)
-  length_external_bottom (suc m) system l h = omega (arith, ap length h.2, length-append h.0 h.1, length_external_bottom m h.0 (omega arith) h.3, one_bound m h.1 (omega arith) h.4)
+  length_external_bottom (suc m) system l h = omega (
+    arith,
+    ap length h.2,
+    length-append h.0 h.1,
+    length_external_bottom m h.0 (omega arith) h.3,
+    one_bound m h.1 (omega arith) h.4,
+  )
 
   -- so it is never over the limit
   pub bottom_list_within : n ≤ row_limit → (i : ℕ) → i < n → IsListOver R n [] i → ⊥

@@ -8,9 +8,11 @@ use Rattle.trop_theory.specs.Combinations.{IsCombination}
 use Rattle.trop_theory.specs.Residual.{Meets}
 use Rattle.trop_theory.specs.Residual.{IsFirstUnmet}
 
--- x_t is at most the sum of p_j x_j over the j other than t: true at each combination of the rows, and false at x, at the
+-- x_t is at most the sum of p_j x_j over the j other than t: true at each combination of the rows, and false at x, at
+-- the
 -- first unmet t
-pub record Separates {V : Type 0} (R : Semiring V) (n : ℕ) (rows : List (List V)) (x : List V) (p : Inequality V) : Type 0 where
+pub record Separates {V : Type 0} (R : Semiring V) (n : ℕ) (rows : List (List V)) (x : List V)
+    (p : Inequality V) : Type 0 where
   pub place : ℕ
   pub first : IsFirstUnmet R rows x place
   pub wide : length p.right ≡ n

@@ -30,17 +30,22 @@ is_end InputEnd u e = refl
 is_end (Token t) u e = absurd cc
 is_end (LineEnd line) u e = absurd cc
 
-at_reads : {V : Type 0} (kind : RingKind) (R : Semiring V) (N : Numbering V) (names : List (List ℕ)) → Reads Anything (at_body_at kind R N names) (IsAt kind R N names)
+at_reads : {V : Type 0} (kind : RingKind) (R : Semiring V) (N : Numbering V) (names : List (List ℕ)) →
+    Reads Anything (at_body_at kind R N names) (IsAt kind R N names)
 unfolding at_body_at
 at_reads kind R N names =
-    Reads-then (inequalities_reads kind R N names (ends AtWord) (sample (codes "at")) refl) (λ xs. Reads-then (row_reads R N greatest_number kind (length names + 1)) (λ row.
-    Reads-then line_end_reads (λ u. Reads-then input_end_reads (λ v. Reads-gives (record { inequalities = xs; row = row })))))
+    Reads-then (inequalities_reads kind R N names (ends AtWord) (sample (codes "at")) refl)
+    (λ xs. Reads-then (row_reads R N greatest_number kind (length names + 1)) (λ row.
+    Reads-then line_end_reads (λ u. Reads-then input_end_reads
+    (λ v. Reads-gives (record { inequalities = xs; row = row })))))
 
 pub at_file_reads : Reads Anything at_file_at SpellsAt
 at_file_reads = Reads-file at_of_at IsAtOf at_file (codes "at") refl (λ h V kind R N. at_reads kind R N h.names)
 
-at_ends : {V : Type 0} (kind : RingKind) (R : Semiring V) (N : Numbering V) (names : List (List ℕ)) → EndsWith IsInputEnd (IsAt kind R N names)
-at_ends kind R N names = EndsWith-then (λ xs. EndsWith-then (λ row. EndsWith-then (λ u. EndsWith-gives (EndsWith-one is_end))))
+at_ends : {V : Type 0} (kind : RingKind) (R : Semiring V) (N : Numbering V) (names : List (List ℕ)) →
+    EndsWith IsInputEnd (IsAt kind R N names)
+at_ends kind R N names = EndsWith-then (λ xs. EndsWith-then
+    (λ row. EndsWith-then (λ u. EndsWith-gives (EndsWith-one is_end))))
 
 pub at_file_ends : EndsWith IsInputEnd SpellsAt
 at_file_ends = EndsWith-file (codes "at") IsAtOf at_file (λ h V kind R N. at_ends kind R N h.names)

@@ -36,22 +36,27 @@ abbrev pub FitFile : ℕ → List (List (Option ℤ)) → Type 0
 FitFile vars [] = Unit {0}
 FitFile vars (row ∷ rows) = FitsFile vars row × FitFile vars rows
 
-module _ {V : Type 0} (kind : RingKind) (reversed : Bool) (R : Semiring V) (N : Numbering V) (laws : NumberLaws R N) (known : KindLaws kind R N reversed) where
+module _ {V : Type 0} (kind : RingKind) (reversed : Bool) (R : Semiring V) (N : Numbering V) (laws : NumberLaws R N)
+    (known : KindLaws kind R N reversed) where
   -- an entry that is the one has a number
   finite_at : (x : List V) (f : ℕ) → f < length x → entry R x f ≡ R.one → list_any is_some (numbers N x) ≡ true
   finite_at [] f h e = absurd (omega arith)
-  finite_at (a ∷ x) zero h e = or_left (is_some (N.to a)) (list_any is_some (numbers N x)) (ap is_some (ap N.to e ∙ one_number kind reversed R N laws known))
-  finite_at (a ∷ x) (suc f) h e = or_right (is_some (N.to a)) (list_any is_some (numbers N x)) (finite_at x f (omega arith) e)
+  finite_at (a ∷ x) zero h e = or_left (is_some (N.to a)) (list_any is_some (numbers N x))
+      (ap is_some (ap N.to e ∙ one_number kind reversed R N laws known))
+  finite_at (a ∷ x) (suc f) h e = or_right (is_some (N.to a)) (list_any is_some (numbers N x))
+      (finite_at x f (omega arith) e)
 
   plain_at : (a : V) (x : List V) (o : Option ℤ) → N.to a ≡ o → IsNormal R (a ∷ x) → StartsPlain (o ∷ numbers N x)
   plain_at a x None e h = tt
   plain_at a x (Some n) e h = at h.first h.is_one h.before
     where
       at : (f : ℕ) → entry R (a ∷ x) f ≡ R.one → ((i : ℕ) → i < f → entry R (a ∷ x) i ≡ R.zero) → n ≡ pos 0
-      at zero one before = let p : Some n ≡ Some (pos 0) = sym e ∙ ap N.to one ∙ one_number kind reversed R N laws known in cc
+      at zero one before = let p : Some n ≡ Some (pos 0) =
+          sym e ∙ ap N.to one ∙ one_number kind reversed R N laws known in cc
       at (suc f) one before = let p : None ≡ Some n = sym ((laws.none a).1 (before 0 (omega arith))) ∙ e in absurd cc
 
-  row_fits : (vars : ℕ) (x : List V) → IsNormal R x → length x ≡ vars + 1 → row_size R x ≤ greatest_number → FitsFile vars (numbers N x)
+  row_fits : (vars : ℕ) (x : List V) → IsNormal R x → length x ≡ vars + 1 → row_size R x ≤ greatest_number →
+      FitsFile vars (numbers N x)
   row_fits vars [] h wide s = absurd (omega arith)
   row_fits vars (a ∷ x) h wide s = record {
     fits = (omega (arith, length-map x N.to), within kind reversed R N laws known greatest_number x (omega arith));
@@ -59,7 +64,11 @@ module _ {V : Type 0} (kind : RingKind) (reversed : Bool) (R : Semiring V) (N : 
     finite = finite_at (a ∷ x) h.first h.within h.is_one;
   }
 
-  pub rows_fit : (vars : ℕ) (rows : List (List V)) → All (IsNormal R) rows → AreWide (vars + 1) rows → rows_size R rows ≤ greatest_number → FitFile vars (map (numbers N) rows)
+  pub rows_fit : (vars : ℕ) (rows : List (List V)) → All (IsNormal R) rows → AreWide (vars + 1) rows →
+      rows_size R rows ≤ greatest_number → FitFile vars (map (numbers N) rows)
   rows_fit vars [] normal wide s = tt
-  rows_fit vars (x ∷ rows) normal wide s =
-      (row_fits vars x (normal 0 x (omega arith)) (wide 0 x (omega arith)) (omega arith), rows_fit vars rows (λ i d h. normal (suc i) d (omega arith)) (λ i d h. wide (suc i) d (omega arith)) (omega arith))
+  rows_fit vars (x ∷ rows) normal wide s = (
+    row_fits vars x (normal 0 x (omega arith)) (wide 0 x (omega arith)) (omega arith),
+    rows_fit vars rows (λ i d h. normal (suc i) d (omega arith)) (λ i d h. wide (suc i) d (omega arith))
+        (omega arith),
+  )

@@ -30,11 +30,15 @@ pub record AtText : Type 0 where
   pub names : List (List ℕ)
   pub body : Over At
 
--- Lines of inequalities up to the word `at`, the vector with an element for each variable and one in front for coordinate
+-- Lines of inequalities up to the word `at`, the vector with an element for each variable and one in front for
+-- coordinate
 -- 0, and the end of the input.
 abbrev pub IsAt : {V : Type 0} → RingKind → Semiring V → Numbering V → List (List ℕ) → List Piece → At V → Type 0
 IsAt kind R N names =
-    Then (AreInequalities kind R N names (ends AtWord)) (λ xs. Then (IsRow kind R N greatest_number (length names + 1)) (λ row. Then (One (Passes line_end)) (λ u. Then (One (Passes input_end)) (λ v. Empty (record { inequalities = xs; row = row })))))
+    Then (AreInequalities kind R N names (ends AtWord))
+    (λ xs. Then (IsRow kind R N greatest_number (length names + 1))
+    (λ row. Then (One (Passes line_end)) (λ u. Then (One (Passes input_end))
+    (λ v. Empty (record { inequalities = xs; row = row })))))
 
 abbrev pub at_file : Header → Over At → AtText
 at_file h body = record { names = h.names; body = body }
@@ -48,9 +52,12 @@ SpellsAt = SpellsFile (codes "at") IsAtOf at_file
 
 -- ---- reading
 
-unfoldable pub at_body_at : {V : Type 0} → RingKind → Semiring V → Numbering V → List (List ℕ) → List Piece → Reading Piece FaultKind (At V)
+unfoldable pub at_body_at : {V : Type 0} → RingKind → Semiring V → Numbering V → List (List ℕ) → List Piece →
+    Reading Piece FaultKind (At V)
 at_body_at kind R N names =
-    inequalities_at kind R N names (ends AtWord) >>= λ xs. row_at kind R N greatest_number (length names + 1) >>= λ row. token_at Syntax line_end >>= λ u. token_at Syntax input_end >>= λ v. gives (record { inequalities = xs; row = row })
+    inequalities_at kind R N names (ends AtWord) >>= λ xs. row_at kind R N greatest_number (length names + 1) >>= λ row.
+    token_at Syntax line_end >>= λ u. token_at Syntax input_end >>= λ v.
+    gives (record { inequalities = xs; row = row })
 
 abbrev pub at_of_at : Header → Readings At
 at_of_at h V kind R N = at_body_at kind R N h.names

@@ -29,14 +29,16 @@ most_generators = 4096
 
 -- `point` or `ray`, as the entry at coordinate 0
 unfoldable pub generator_word : {V : Type 0} → Semiring V → Piece → Result V FaultKind
-generator_word R p = if says (codes "point") p then Ok R.one else (if says (codes "ray") p then Ok R.zero else Err Syntax)
+generator_word R p = if says (codes "point") p then Ok R.one else
+    (if says (codes "ray") p then Ok R.zero else Err Syntax)
 
 -- what is wrong with a further line, or with what is none
 unfoldable pub past_generators : Piece → FaultKind
 past_generators p = if says (codes "point") p || says (codes "ray") p then TooManyLines else Syntax
 
 -- a line of a generator, or the token that ends the list
-abbrev pub next_generator : {V : Type 0} → Semiring V → (Piece → Bool) → List (List V) → Piece → Result (Option V) FaultKind
+abbrev pub next_generator : {V : Type 0} → Semiring V → (Piece → Bool) → List (List V) → Piece →
+    Result (Option V) FaultKind
 next_generator R ends rows p = next_or_end (ends p) (generator_word R p)
 
 abbrev pub no_generator : (Piece → Bool) → Piece → Result (Unit {0}) FaultKind
@@ -44,11 +46,14 @@ no_generator ends p = only_end (ends p) (past_generators p)
 
 -- the other entries in a row, and the end of the line
 abbrev pub IsGenerator : {V : Type 0} → RingKind → Semiring V → Numbering V → ℕ → V → List Piece → List V → Type 0
-IsGenerator kind R N vars first = Then (IsRow kind R N greatest_number vars) (λ row. Then (One (Passes line_end)) (λ u. Empty (first ∷ row)))
+IsGenerator kind R N vars first = Then (IsRow kind R N greatest_number vars)
+    (λ row. Then (One (Passes line_end)) (λ u. Empty (first ∷ row)))
 
 -- lines of generators, 4,096 at most, up to a token that ends them
-abbrev pub AreGeneratorLines : {V : Type 0} → RingKind → Semiring V → Numbering V → ℕ → (Piece → Bool) → List Piece → List (List V) → Type 0
-AreGeneratorLines kind R N vars ends = Listed (Item (next_generator R ends) (λ rows. IsGenerator kind R N vars)) (EndsList (next_generator R ends)) most_generators
+abbrev pub AreGeneratorLines : {V : Type 0} → RingKind → Semiring V → Numbering V → ℕ → (Piece → Bool) → List Piece →
+    List (List V) → Type 0
+AreGeneratorLines kind R N vars ends = Listed (Item (next_generator R ends) (λ rows. IsGenerator kind R N vars))
+    (EndsList (next_generator R ends)) most_generators
 
 abbrev pub is_finite : {V : Type 0} → Numbering V → V → Bool
 is_finite N x = is_some (N.to x)
@@ -58,18 +63,24 @@ abbrev pub kept : {V : Type 0} → Numbering V → List (List V) → List (List 
 kept N rows = filter (λ row. list_any (is_finite N) row) rows
 
 -- The vectors of lines of generators. A line whose elements are all the zero adds nothing.
-abbrev pub AreGenerators : {V : Type 0} → RingKind → Semiring V → Numbering V → ℕ → (Piece → Bool) → List Piece → List (List V) → Type 0
+abbrev pub AreGenerators : {V : Type 0} → RingKind → Semiring V → Numbering V → ℕ → (Piece → Bool) → List Piece →
+    List (List V) → Type 0
 AreGenerators kind R N vars ends = Then (AreGeneratorLines kind R N vars ends) (λ rows. Empty (kept N rows))
 
 -- ---- reading
 
-unfoldable pub generator_at : {V : Type 0} → RingKind → Semiring V → Numbering V → ℕ → V → List Piece → Reading Piece FaultKind (List V)
-generator_at kind R N vars first = row_at kind R N greatest_number vars >>= λ row. token_at Syntax line_end >>= λ u. gives (first ∷ row)
+unfoldable pub generator_at : {V : Type 0} → RingKind → Semiring V → Numbering V → ℕ → V → List Piece →
+    Reading Piece FaultKind (List V)
+generator_at kind R N vars first = row_at kind R N greatest_number vars >>= λ row. token_at Syntax line_end >>= λ u.
+    gives (first ∷ row)
 
-unfoldable pub generator_lines_at : {V : Type 0} → RingKind → Semiring V → Numbering V → ℕ → (Piece → Bool) → List Piece → Reading Piece FaultKind (List (List V))
-generator_lines_at kind R N vars ends = list_at Syntax (next_generator R ends) (λ rows. generator_at kind R N vars) (λ rows. no_generator ends) most_generators []
+unfoldable pub generator_lines_at : {V : Type 0} → RingKind → Semiring V → Numbering V → ℕ → (Piece → Bool) →
+    List Piece → Reading Piece FaultKind (List (List V))
+generator_lines_at kind R N vars ends = list_at Syntax (next_generator R ends) (λ rows. generator_at kind R N vars)
+    (λ rows. no_generator ends) most_generators []
 
-unfoldable pub generators_at : {V : Type 0} → RingKind → Semiring V → Numbering V → ℕ → (Piece → Bool) → List Piece → Reading Piece FaultKind (List (List V))
+unfoldable pub generators_at : {V : Type 0} → RingKind → Semiring V → Numbering V → ℕ → (Piece → Bool) → List Piece →
+    Reading Piece FaultKind (List (List V))
 generators_at kind R N vars ends = generator_lines_at kind R N vars ends >>= λ rows. gives (kept N rows)
 
 -- ---- files of generators

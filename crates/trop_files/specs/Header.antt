@@ -26,7 +26,8 @@ kinds = codes "ineqs" ∷ codes "gens" ∷ codes "pair" ∷ codes "at" ∷ []
 
 -- the wanted kind of file; another one is of the wrong kind
 abbrev pub kind_word : List ℕ → Piece → Result (Unit {0}) FaultKind
-kind_word wanted p = if says wanted p then Ok tt else (if list_any (λ kind. says kind p) kinds then Err WrongKind else Err Syntax)
+kind_word wanted p = if says wanted p then Ok tt else
+    (if list_any (λ kind. says kind p) kinds then Err WrongKind else Err Syntax)
 
 abbrev pub semiring_word : Piece → Result RingKind FaultKind
 semiring_word p =
@@ -80,16 +81,20 @@ AreNamesInLine = Listed (Item next_name IsName) (EndsList next_name) most_names
 
 -- the first line, with the word of the kind
 abbrev pub IsKindLine : List ℕ → List Piece → Unit {0} → Type 0
-IsKindLine kind = Then (One (Passes (said (codes "kind")))) (λ a. Then (One (Passes (kind_word kind))) (λ b. One (Passes line_end)))
+IsKindLine kind = Then (One (Passes (said (codes "kind"))))
+    (λ a. Then (One (Passes (kind_word kind))) (λ b. One (Passes line_end)))
 
 -- the second line, with the word of the semiring
 abbrev pub IsSemiringLine : List Piece → RingKind → Type 0
-IsSemiringLine = Then (One (Passes (said (codes "semiring")))) (λ a. Then (One (Passes semiring_word)) (λ ring. Then (One (Passes line_end)) (λ b. Empty ring)))
+IsSemiringLine = Then (One (Passes (said (codes "semiring"))))
+    (λ a. Then (One (Passes semiring_word)) (λ ring. Then (One (Passes line_end)) (λ b. Empty ring)))
 
 -- both, and the line of the names
 abbrev pub IsHeader : List ℕ → List Piece → Header → Type 0
 IsHeader kind =
-    Then (IsKindLine kind) (λ a. Then IsSemiringLine (λ ring. Then (One (Passes vars_word)) (λ line. Then AreNamesInLine (λ names. Empty (record { ring = ring; names = names; vars_line = line })))))
+    Then (IsKindLine kind) (λ a. Then IsSemiringLine
+    (λ ring. Then (One (Passes vars_word)) (λ line.
+    Then AreNamesInLine (λ names. Empty (record { ring = ring; names = names; vars_line = line })))))
 
 -- ---- reading
 
@@ -100,10 +105,13 @@ unfoldable pub names_at : List Piece → Reading Piece FaultKind (List (List ℕ
 names_at = list_at Syntax next_name name_at (λ names. no_name) most_names []
 
 unfoldable pub kind_line_at : List ℕ → List Piece → Reading Piece FaultKind (Unit {0})
-kind_line_at kind = token_at Syntax (said (codes "kind")) >>= λ a. token_at Syntax (kind_word kind) >>= λ b. token_at Syntax line_end
+kind_line_at kind = token_at Syntax (said (codes "kind")) >>= λ a. token_at Syntax (kind_word kind) >>= λ b.
+    token_at Syntax line_end
 
 unfoldable pub semiring_line_at : List Piece → Reading Piece FaultKind RingKind
-semiring_line_at = token_at Syntax (said (codes "semiring")) >>= λ a. token_at Syntax semiring_word >>= λ ring. token_at Syntax line_end >>= λ b. gives ring
+semiring_line_at = token_at Syntax (said (codes "semiring")) >>= λ a. token_at Syntax semiring_word >>= λ ring.
+    token_at Syntax line_end >>= λ b. gives ring
 
 unfoldable pub header_at : List ℕ → List Piece → Reading Piece FaultKind Header
-header_at kind = kind_line_at kind >>= λ a. semiring_line_at >>= λ ring. token_at Syntax vars_word >>= λ line. names_at >>= λ names. gives (record { ring = ring; names = names; vars_line = line })
+header_at kind = kind_line_at kind >>= λ a. semiring_line_at >>= λ ring. token_at Syntax vars_word >>= λ line. names_at
+    >>= λ names. gives (record { ring = ring; names = names; vars_line = line })

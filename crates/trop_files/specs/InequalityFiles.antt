@@ -38,20 +38,25 @@ unfoldable pub past_inequalities : RingKind → Piece → FaultKind
 past_inequalities kind p = if begins_line kind p then TooManyLines else Syntax
 
 -- a line of an inequality, or the token that ends the list
-abbrev pub next_inequality : {V : Type 0} → RingKind → Semiring V → Numbering V → List (List ℕ) → (Piece → Bool) → List (Inequality V) → Piece → Result (Option (Option (Start V))) FaultKind
+abbrev pub next_inequality : {V : Type 0} → RingKind → Semiring V → Numbering V → List (List ℕ) → (Piece → Bool) →
+    List (Inequality V) → Piece → Result (Option (Option (Start V))) FaultKind
 next_inequality kind R N names ends before p = next_or_end (ends p) (side_start kind R N greatest_number names p)
 
 abbrev pub no_inequality : RingKind → (Piece → Bool) → Piece → Result (Unit {0}) FaultKind
 no_inequality kind ends p = only_end (ends p) (past_inequalities kind p)
 
 -- lines of inequalities, 1,024 at most, up to a token that ends them
-abbrev pub AreInequalities : {V : Type 0} → RingKind → Semiring V → Numbering V → List (List ℕ) → (Piece → Bool) → List Piece → List (Inequality V) → Type 0
+abbrev pub AreInequalities : {V : Type 0} → RingKind → Semiring V → Numbering V → List (List ℕ) → (Piece → Bool) →
+    List Piece → List (Inequality V) → Type 0
 AreInequalities kind R N names ends =
-    Listed (Item (next_inequality kind R N names ends) (λ before. IsInequalityRest kind R N greatest_number names)) (EndsList (next_inequality kind R N names ends)) most_inequalities
+    Listed (Item (next_inequality kind R N names ends) (λ before. IsInequalityRest kind R N greatest_number names))
+    (EndsList (next_inequality kind R N names ends)) most_inequalities
 
-unfoldable pub inequalities_at : {V : Type 0} → RingKind → Semiring V → Numbering V → List (List ℕ) → (Piece → Bool) → List Piece → Reading Piece FaultKind (List (Inequality V))
+unfoldable pub inequalities_at : {V : Type 0} → RingKind → Semiring V → Numbering V → List (List ℕ) → (Piece → Bool) →
+    List Piece → Reading Piece FaultKind (List (Inequality V))
 inequalities_at kind R N names ends =
-    list_at Syntax (next_inequality kind R N names ends) (λ before. inequality_rest_at kind R N greatest_number names) (λ before. no_inequality kind ends) most_inequalities []
+    list_at Syntax (next_inequality kind R N names ends) (λ before. inequality_rest_at kind R N greatest_number names)
+    (λ before. no_inequality kind ends) most_inequalities []
 
 -- ---- files of inequalities
 

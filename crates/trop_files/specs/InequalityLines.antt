@@ -46,7 +46,8 @@ pub record IsOpened {V : Type 0} (kind : RingKind) (text : List ℕ) (reader : L
   pub failed : reader.failed ≡ None
 
 -- the next line is that of the inequality x, and the reader goes on behind it
-pub record GivesLine {V : Type 0} (kind : RingKind) (R : Semiring V) (N : Numbering V) (old new : LineReader V) (x : Inequality V) : Type 0 where
+pub record GivesLine {V : Type 0} (kind : RingKind) (R : Semiring V) (N : Numbering V) (old new : LineReader V)
+    (x : Inequality V) : Type 0 where
   pub line : List Piece
   pub whole : old.left ≡ line ++ new.left
   pub is : IsInequality kind R N greatest_number old.names line x
@@ -57,7 +58,8 @@ abbrev pub IsAtEnd : {V : Type 0} → LineReader V → Type 0
 IsAtEnd reader = reader.left ≡ InputEnd ∷ []
 
 -- the next inequality, or none where no line is left
-abbrev pub GivesNext : {V : Type 0} → RingKind → Semiring V → Numbering V → LineReader V → LineReader V → Option (Inequality V) → Type 0
+abbrev pub GivesNext : {V : Type 0} → RingKind → Semiring V → Numbering V → LineReader V → LineReader V →
+    Option (Inequality V) → Type 0
 GivesNext kind R N old new (Some x) = GivesLine kind R N old new x
 GivesNext kind R N old new None = IsAtEnd old × (new ≡ old)
 
@@ -69,26 +71,33 @@ KeepsFault old new (errors.Fault f) = new ≡ record old { failed = Some f }
 -- ---- reading
 
 -- behind k inequalities: what the next line begins with, or none at the end of the input
-abbrev pub next_start : {V : Type 0} → RingKind → Semiring V → Numbering V → List (List ℕ) → ℕ → Piece → Result (Option (Option (Start V))) FaultKind
+abbrev pub next_start : {V : Type 0} → RingKind → Semiring V → Numbering V → List (List ℕ) → ℕ → Piece →
+    Result (Option (Option (Start V))) FaultKind
 next_start kind R N names k p =
     if nat_lt k most_inequalities then next_inequality kind R N names is_input_end [] p
     else passed (λ u. None) (no_inequality kind is_input_end p)
 
-unfoldable pub line_rest_at : {V : Type 0} → RingKind → Semiring V → Numbering V → List (List ℕ) → Option (Option (Start V)) → List Piece → Reading Piece FaultKind (Option (Inequality V))
+unfoldable pub line_rest_at : {V : Type 0} → RingKind → Semiring V → Numbering V → List (List ℕ) →
+    Option (Option (Start V)) → List Piece → Reading Piece FaultKind (Option (Inequality V))
 line_rest_at kind R N names None = gives None
-line_rest_at kind R N names (Some start) = inequality_rest_at kind R N greatest_number names start >>= λ x. gives (Some x)
+line_rest_at kind R N names (Some start) = inequality_rest_at kind R N greatest_number names start >>= λ x.
+    gives (Some x)
 
 -- the inequality of the next line behind k inequalities
-unfoldable pub line_at : {V : Type 0} → RingKind → Semiring V → Numbering V → List (List ℕ) → ℕ → List Piece → Reading Piece FaultKind (Option (Inequality V))
+unfoldable pub line_at : {V : Type 0} → RingKind → Semiring V → Numbering V → List (List ℕ) → ℕ → List Piece →
+    Reading Piece FaultKind (Option (Inequality V))
 line_at kind R N names k = token_at Syntax (next_start kind R N names k) >>= line_rest_at kind R N names
 
 -- the inequalities of the first k lines
-unfoldable pub first_at : {V : Type 0} → RingKind → Semiring V → Numbering V → List (List ℕ) → ℕ → List Piece → Reading Piece FaultKind (List (Inequality V))
+unfoldable pub first_at : {V : Type 0} → RingKind → Semiring V → Numbering V → List (List ℕ) → ℕ → List Piece →
+    Reading Piece FaultKind (List (Inequality V))
 first_at kind R N names zero = gives []
-first_at kind R N names (suc k) = first_at kind R N names k >>= λ xs. inequality_at kind R N greatest_number names >>= λ x. gives (xs ++ x ∷ [])
+first_at kind R N names (suc k) = first_at kind R N names k >>= λ xs. inequality_at kind R N greatest_number names
+    >>= λ x. gives (xs ++ x ∷ [])
 
 -- those behind the header
-unfoldable pub first_lines_at : {V : Type 0} → RingKind → Semiring V → Numbering V → ℕ → List Piece → Reading Piece FaultKind (List (Inequality V))
+unfoldable pub first_lines_at : {V : Type 0} → RingKind → Semiring V → Numbering V → ℕ → List Piece →
+    Reading Piece FaultKind (List (Inequality V))
 first_lines_at kind R N k = header_at (codes "ineqs") >>= λ h. first_at kind R N h.names k
 
 abbrev pub list_of : {A : Type 0} → Reading Piece FaultKind (List A) → List A
@@ -104,7 +113,8 @@ abbrev pub IsHeaded : List ℕ → Header → List Piece → Type 0
 IsHeaded bytes header rest = header_at (codes "ineqs") (pieces_of bytes) ≡ Ok (header, rest)
 
 -- behind the header of the bytes and k inequalities the pieces `left` stand
-pub record IsBehind {V : Type 0} (kind : RingKind) (R : Semiring V) (N : Numbering V) (bytes : List ℕ) (names : List (List ℕ)) (k : ℕ) (left : List Piece) : Type 0 where
+pub record IsBehind {V : Type 0} (kind : RingKind) (R : Semiring V) (N : Numbering V) (bytes : List ℕ)
+    (names : List (List ℕ)) (k : ℕ) (left : List Piece) : Type 0 where
   pub header : Header
   pub body : List Piece
   pub headed : IsHeaded bytes header body
@@ -117,7 +127,8 @@ HasFault bytes (Some f) = IsFault SpellsInequalities inequality_file_at bytes f
 HasFault bytes None = Unit {0}
 
 -- what holds of a reader at every time
-pub record IsSound {V : Type 0} (kind : RingKind) (R : Semiring V) (N : Numbering V) (bytes : List ℕ) (names : List (List ℕ)) (k : ℕ) (left : List Piece) (failed : Option Fault) : Type 0 where
+pub record IsSound {V : Type 0} (kind : RingKind) (R : Semiring V) (N : Numbering V) (bytes : List ℕ)
+    (names : List (List ℕ)) (k : ℕ) (left : List Piece) (failed : Option Fault) : Type 0 where
   pub small : length bytes ≤ 2 ^ 31
   pub few : length names ≤ 63
   pub count : k ≤ most_inequalities

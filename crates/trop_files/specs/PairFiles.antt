@@ -30,7 +30,8 @@ pub record TwoFile : Type 0 where
 -- lines of generators up to a line with the word `and` alone, and lines of generators up to the end of the input
 abbrev pub AreTwo : {V : Type 0} → RingKind → Semiring V → Numbering V → ℕ → List Piece → Two V → Type 0
 AreTwo kind R N vars =
-    Then (AreGenerators kind R N vars (ends And)) (λ left. Then (One (Passes line_end)) (λ u. Then (AreGenerators kind R N vars (ends Input)) (λ right. Empty (record { left = left; right = right }))))
+    Then (AreGenerators kind R N vars (ends And)) (λ left. Then (One (Passes line_end))
+    (λ u. Then (AreGenerators kind R N vars (ends Input)) (λ right. Empty (record { left = left; right = right }))))
 
 abbrev pub two_file : Header → Over Two → TwoFile
 two_file h lists = record { names = h.names; lists = lists }
@@ -44,9 +45,11 @@ SpellsTwo = SpellsFile (codes "pair") AreTwoOf two_file
 
 -- ---- reading
 
-unfoldable pub two_at : {V : Type 0} → RingKind → Semiring V → Numbering V → ℕ → List Piece → Reading Piece FaultKind (Two V)
+unfoldable pub two_at : {V : Type 0} → RingKind → Semiring V → Numbering V → ℕ → List Piece →
+    Reading Piece FaultKind (Two V)
 two_at kind R N vars =
-    generators_at kind R N vars (ends And) >>= λ left. token_at Syntax line_end >>= λ u. generators_at kind R N vars (ends Input) >>= λ right. gives (record { left = left; right = right })
+    generators_at kind R N vars (ends And) >>= λ left. token_at Syntax line_end >>= λ u. generators_at kind R N vars
+    (ends Input) >>= λ right. gives (record { left = left; right = right })
 
 abbrev pub two_of_at : Header → Readings Two
 two_of_at h V kind R N = two_at kind R N (length h.names)

@@ -14,7 +14,8 @@ after_spaces (x ∷ names) = codes " " ++ (x ++ after_spaces names)
 -- the three lines of the header
 abbrev pub printed_header : List ℕ → RingKind → List (List ℕ) → List ℕ
 printed_header file_kind kind names =
-    codes "kind " ++ (file_kind ++ (codes "\nsemiring " ++ (ring_word kind ++ (codes "\nvars" ++ (after_spaces names ++ codes "\n")))))
+    codes "kind " ++ (file_kind ++ (codes "\nsemiring "
+    ++ (ring_word kind ++ (codes "\nvars" ++ (after_spaces names ++ codes "\n")))))
 
 -- a line each
 abbrev pub lines_of : {A : Type 0} → (A → List ℕ) → List A → List ℕ
@@ -29,8 +30,10 @@ generator_line kind (Some c ∷ entries) = codes "point " ++ printed_row kind en
 
 -- a file of generators
 abbrev pub printed_gens : {V : Type 0} → RingKind → Numbering V → List (List ℕ) → List (List V) → List ℕ
-printed_gens kind N names rows = printed_header (codes "gens") kind names ++ lines_of (λ x. generator_line kind (numbers N x)) rows
+printed_gens kind N names rows = printed_header (codes "gens") kind names
+    ++ lines_of (λ x. generator_line kind (numbers N x)) rows
 
 -- a file of inequalities
 abbrev pub printed_ineqs : {V : Type 0} → RingKind → Numbering V → List (List ℕ) → List (Inequality V) → List ℕ
-printed_ineqs kind N names system = printed_header (codes "ineqs") kind names ++ lines_of (printed_inequality kind N names) system
+printed_ineqs kind N names system = printed_header (codes "ineqs") kind names
+    ++ lines_of (printed_inequality kind N names) system

@@ -49,7 +49,8 @@ fn at_lines<'a, S: Spelling>(
     at: Pieces<'a>,
 ) -> Result<(AtFile<S>, Pieces<'a>), ReadErr<'a>>
     requires { length names ≤ 63 }
-    ensures gives { Gives (λ x. (at_of x.0, pieces_left x.1)) result (spec.at_body_at S.KIND S.ring S.numbering names (pieces_left at.entry)) }
+    ensures gives { Gives (λ x. (at_of x.0, pieces_left x.1)) result
+        (spec.at_body_at S.KIND S.ring S.numbering names (pieces_left at.entry)) }
     ensures names { IfOk result (λ x. x.0.names ≡ names) }
     ensures width { IfOk result (λ x. x.0.system.n ≡ length names + 1) }
     ensures row_width { IfOk result (λ x. length x.0.row ≡ length names + 1) }
@@ -70,7 +71,8 @@ fn at_body<'a>(
     at: Pieces<'a>,
 ) -> Result<(AnyAt, Pieces<'a>), ReadErr<'a>>
     requires { length header.names ≤ 63 }
-    ensures gives { Gives (λ x. (at_text_of x.0, pieces_left x.1)) result (file_rest_at spec.at_of_at spec.at_file (header_of header) (pieces_left at.entry)) }
+    ensures gives { Gives (λ x. (at_text_of x.0, pieces_left x.1)) result
+        (file_rest_at spec.at_of_at spec.at_file (header_of header) (pieces_left at.entry)) }
     ensures width { IfOk result (λ x. IsWideAt x.0) }
 {
     let Header {
@@ -112,7 +114,8 @@ pub fn read_at(alloc: Global, bytes: &[u8]) -> Result<AnyAt, TextErr>
     // What is read is spelled so.
     ensures found { IfOk result (λ file. spec.SpellsAt (pieces_of bytes.now) (at_text_of file)) }
     // What is spelled so is read, unless memory runs out.
-    ensures only { (file : spec.AtText) → spec.SpellsAt (pieces_of bytes.now) file → AnswersWith at_text_of result file }
+    ensures only { (file : spec.AtText) → spec.SpellsAt (pieces_of bytes.now) file →
+        AnswersWith at_text_of result file }
     // A fault is the first one.
     ensures fault { IfErr result (IsRefusal spec.SpellsAt spec.at_file_at bytes.now) }
     ensures width { IfOk result IsWideAt }

@@ -74,7 +74,8 @@ fn generator<'a, S: Spelling>(
     vars: u32,
 ) -> Result<(Row<S>, Pieces<'a>), ReadErr<'a>>
     requires { vars ≤ 63 }
-    ensures gives { Gives (λ x. (x.0, pieces_left x.1)) result (spec.generator_at S.KIND S.ring S.numbering vars first (pieces_left at.entry)) }
+    ensures gives { Gives (λ x. (x.0, pieces_left x.1)) result
+        (spec.generator_at S.KIND S.ring S.numbering vars first (pieces_left at.entry)) }
     ensures wide { IfOk result (λ x. length x.0 ≡ vars + 1) }
 {
     let (mut entries, rest) = row_entries(alloc, at, vars, GREATEST_NUMBER)?;
@@ -95,7 +96,9 @@ fn next_generator<'a, S: Spelling>(
 ) -> Result<(bool, Pieces<'a>), ReadErr<'a>>
     requires vars { vars ≤ 63 }
     requires wide { AreWide (vars + 1) rows.old.items }
-    ensures gives { Gives (λ x. (next_of x.0 rows.new.items, pieces_left x.1)) result (list_step Syntax (spec.next_generator S.ring (ends end)) (λ rows. spec.generator_at S.KIND S.ring S.numbering vars) rows.old.items (pieces_left at.entry)) }
+    ensures gives { Gives (λ x. (next_of x.0 rows.new.items, pieces_left x.1)) result
+        (list_step Syntax (spec.next_generator S.ring (ends end))
+        (λ rows. spec.generator_at S.KIND S.ring S.numbering vars) rows.old.items (pieces_left at.entry)) }
     ensures wide { IfOk result (λ x. AreWide (vars + 1) rows.new.items) }
     ensures count { IfOk result (λ x. length rows.new.items ≤ length rows.old.items + 1) }
 {
@@ -114,7 +117,8 @@ fn next_generator<'a, S: Spelling>(
 // What ends the list, where no line may follow.
 #[tactic(auto, unfolding(trop_grammar::specs::Reading::token_at, crate::specs::Generators::past_generators))]
 fn no_generator<'a>(at: Pieces<'a>, end: ListEnd) -> Result<Pieces<'a>, ReadErr<'a>>
-    ensures { Gives (λ rest. (tt, pieces_left rest)) result (token_at Syntax (spec.no_generator (ends end)) (pieces_left at.entry)) }
+    ensures { Gives (λ rest. (tt, pieces_left rest)) result
+        (token_at Syntax (spec.no_generator (ends end)) (pieces_left at.entry)) }
 {
     let Some((piece, rest)) = at.next() else {
         return Err(ReadErr::Wrong(FaultKind::Syntax, at));
@@ -136,7 +140,8 @@ fn generator_lines<'a, S: Spelling>(
     end: ListEnd,
 ) -> Result<(Vec<Row<S>>, Pieces<'a>), ReadErr<'a>>
     requires { vars ≤ 63 }
-    ensures gives { Gives (λ x. (x.0.items, pieces_left x.1)) result (spec.generator_lines_at S.KIND S.ring S.numbering vars (ends end) (pieces_left at.entry)) }
+    ensures gives { Gives (λ x. (x.0.items, pieces_left x.1)) result
+        (spec.generator_lines_at S.KIND S.ring S.numbering vars (ends end) (pieces_left at.entry)) }
     ensures wide { IfOk result (λ x. AreWide (vars + 1) x.0.items) }
     ensures count { IfOk result (λ x. length x.0.items ≤ 4096) }
 {
@@ -203,7 +208,8 @@ pub(crate) fn generators<'a, S: Spelling>(
     end: ListEnd,
 ) -> Result<(Vec<Row<S>>, Pieces<'a>), ReadErr<'a>>
     requires { vars ≤ 63 }
-    ensures gives { Gives (λ x. (x.0.items, pieces_left x.1)) result (spec.generators_at S.KIND S.ring S.numbering vars (ends end) (pieces_left at.entry)) }
+    ensures gives { Gives (λ x. (x.0.items, pieces_left x.1)) result
+        (spec.generators_at S.KIND S.ring S.numbering vars (ends end) (pieces_left at.entry)) }
     ensures wide { IfOk result (λ x. AreWide (vars + 1) x.0.items) }
     ensures count { IfOk result (λ x. length x.0.items ≤ 4096) }
 {
@@ -220,7 +226,8 @@ fn gen_lines<'a, S: Spelling>(
     at: Pieces<'a>,
 ) -> Result<(GenFile<S>, Pieces<'a>), ReadErr<'a>>
     requires { length names ≤ 63 }
-    ensures gives { Gives (λ x. (x.0.gens.rows, pieces_left x.1)) result (spec.generators_at S.KIND S.ring S.numbering (length names) (ends Input) (pieces_left at.entry)) }
+    ensures gives { Gives (λ x. (x.0.gens.rows, pieces_left x.1)) result
+        (spec.generators_at S.KIND S.ring S.numbering (length names) (ends Input) (pieces_left at.entry)) }
     ensures names { IfOk result (λ x. x.0.names ≡ names) }
     ensures line { IfOk result (λ x. x.0.vars_line ≡ vars_line) }
     ensures width { IfOk result (λ x. x.0.gens.n ≡ length names + 1) }
@@ -243,7 +250,8 @@ fn gen_body<'a>(
     at: Pieces<'a>,
 ) -> Result<(AnyGens, Pieces<'a>), ReadErr<'a>>
     requires { length header.names ≤ 63 }
-    ensures gives { Gives (λ x. (generator_file_of x.0, pieces_left x.1)) result (file_rest_at spec.generators_of_at spec.generator_file (header_of header) (pieces_left at.entry)) }
+    ensures gives { Gives (λ x. (generator_file_of x.0, pieces_left x.1)) result
+        (file_rest_at spec.generators_of_at spec.generator_file (header_of header) (pieces_left at.entry)) }
     ensures width { IfOk result (λ x. IsWideGens x.0) }
 {
     let Header {
@@ -270,7 +278,8 @@ fn gen_body<'a>(
 // A file of generators.
 #[tactic(auto, unfolding(trop_grammar::specs::Reading::read_then, crate::specs::Files::file_at))]
 fn gen_file<'a>(alloc: Global, at: Pieces<'a>) -> Result<(AnyGens, Pieces<'a>), ReadErr<'a>>
-    ensures gives { Gives (λ x. (generator_file_of x.0, pieces_left x.1)) result (spec.generator_file_at (pieces_left at.entry)) }
+    ensures gives { Gives (λ x. (generator_file_of x.0, pieces_left x.1)) result
+        (spec.generator_file_at (pieces_left at.entry)) }
     ensures width { IfOk result (λ x. IsWideGens x.0) }
 {
     let (header, rest) = read_header(alloc, at, FileKind::Gens)?;
@@ -285,7 +294,8 @@ pub fn read_gens(alloc: Global, bytes: &[u8]) -> Result<AnyGens, TextErr>
     // What is read is spelled so.
     ensures found { IfOk result (λ file. spec.SpellsGenerators (pieces_of bytes.now) (generator_file_of file)) }
     // What is spelled so is read, unless memory runs out.
-    ensures only { (file : spec.GeneratorFile) → spec.SpellsGenerators (pieces_of bytes.now) file → AnswersWith generator_file_of result file }
+    ensures only { (file : spec.GeneratorFile) → spec.SpellsGenerators (pieces_of bytes.now) file →
+        AnswersWith generator_file_of result file }
     // A fault is the first one.
     ensures fault { IfErr result (IsRefusal spec.SpellsGenerators spec.generator_file_at bytes.now) }
     ensures width { IfOk result IsWideGens }

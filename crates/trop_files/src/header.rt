@@ -119,7 +119,8 @@ fn next_name<'a>(
     at: Pieces<'a>,
 ) -> Result<(bool, Pieces<'a>), ReadErr<'a>>
     requires { length names.old < 2 ^ 31 }
-    ensures gives { Gives (λ x. (next_of x.0 names.new, pieces_left x.1)) result (list_step Syntax spec.next_name spec.name_at names.old (pieces_left at.entry)) }
+    ensures gives { Gives (λ x. (next_of x.0 names.new, pieces_left x.1)) result
+        (list_step Syntax spec.next_name spec.name_at names.old (pieces_left at.entry)) }
     ensures count { IfOk result (λ x. length names.new ≤ length names.old + 1) }
 {
     let Some((piece, rest)) = at.next() else {
@@ -178,7 +179,8 @@ pub(crate) fn read_header<'a>(
     at: Pieces<'a>,
     wanted: FileKind,
 ) -> Result<(Header, Pieces<'a>), ReadErr<'a>>
-    ensures gives { Gives (λ x. (header_of x.0, pieces_left x.1)) result (spec.header_at (word_of wanted) (pieces_left at.entry)) }
+    ensures gives { Gives (λ x. (header_of x.0, pieces_left x.1)) result
+        (spec.header_at (word_of wanted) (pieces_left at.entry)) }
     ensures count { IfOk result (λ x. length x.0.names ≤ 63) }
 {
     let rest = kind_line(at, wanted)?;

@@ -43,9 +43,17 @@ impl<'a, S: Spelling> Model for IneqLines<'a, S> {
 
     ghost Value = { LineReader S };
 
-    ghost view = { λ l. record { bytes = l.bytes.now; names = l.names; given = first_of S.KIND S.ring S.numbering l.count l.bytes.now; left = pieces_left l.at; failed = l.failed } };
+    ghost view = { λ l. record {
+      bytes = l.bytes.now;
+      names = l.names;
+      given =
+          first_of S.KIND S.ring S.numbering l.count l.bytes.now;
+      left = pieces_left l.at;
+      failed = l.failed;
+    } };
 
-    ghost invariant = { λ l. IsSound S.KIND S.ring S.numbering l.bytes.now l.names l.count (pieces_left l.at) l.failed };
+    ghost invariant = { λ l. IsSound S.KIND S.ring S.numbering l.bytes.now l.names l.count
+        (pieces_left l.at) l.failed };
 }
 
 /// A file of inequalities over any of the semirings, line by line.
@@ -75,10 +83,14 @@ impl<'a, S: Spelling> IneqLines<'a, S> {
         // What is given is the inequality of the next line.
         ensures given { IfOk result (spec.GivesNext S.KIND S.ring S.numbering self.old self.new) }
         // Where no line is left, the text spells what was given.
-        ensures found { IfOk result (λ o. IfNone o (SpellsInequalities (pieces_of self.old.bytes) (spec.file_given S.three.over self.old))) }
+        ensures found { IfOk result (λ o. IfNone o
+            (SpellsInequalities (pieces_of self.old.bytes) (spec.file_given S.three.over self.old))) }
 
         // The inequality of the next line is given, unless memory runs out; and none where no line is left.
-        ensures only { self.old.failed ≡ None → length self.old.given < most_inequalities → (line rest : List Piece) (x : Inequality S) → self.old.left ≡ line ++ rest → IsInequality S.KIND S.ring S.numbering greatest_number self.old.names line x → AnswersWith (λ o. o) result (Some x) }
+        ensures only { self.old.failed ≡ None → length self.old.given < most_inequalities →
+            (line rest : List Piece) (x : Inequality S) → self.old.left ≡ line ++ rest →
+            IsInequality S.KIND S.ring S.numbering greatest_number self.old.names line x →
+            AnswersWith (λ o. o) result (Some x) }
         ensures end { self.old.failed ≡ None → spec.IsAtEnd self.old → AnswersWith (λ o. o) result None }
 
         // A fault is the first one of the text, and stays.
@@ -121,7 +133,8 @@ fn next_line<'a, S: Spelling>(
     at: Pieces<'a>,
 ) -> Result<(Option<Ineq<S>>, Pieces<'a>), ReadErr<'a>>
     requires { length names.now ≤ 63 }
-    ensures gives { Gives (λ x. (x.0, pieces_left x.1)) result (spec.line_at S.KIND S.ring S.numbering names.now count (pieces_left at.entry)) }
+    ensures gives { Gives (λ x. (x.0, pieces_left x.1)) result
+        (spec.line_at S.KIND S.ring S.numbering names.now count (pieces_left at.entry)) }
     ensures wide { IfOk result (λ x. IfSome x.0 (IsIn (length names.now + 1))) }
 {
     if count >= MOST_INEQUALITIES {
@@ -144,7 +157,14 @@ fn lines<'a, S: Spelling>(bytes: &'a [u8], names: Names, at: Pieces<'a>) -> Ineq
     requires small { length bytes.now ≤ 2 ^ 31 }
     requires few { length names ≤ 63 }
     requires behind { spec.IsBehind S.KIND S.ring S.numbering bytes.now names 0 (pieces_left at) }
-    ensures { result ≡ record { bytes = bytes.now; names = names; given = spec.first_of S.KIND S.ring S.numbering 0 bytes.now; left = pieces_left at.entry; failed = None } }
+    ensures { result ≡ record {
+      bytes = bytes.now;
+      names = names;
+      given =
+          spec.first_of S.KIND S.ring S.numbering 0 bytes.now;
+      left = pieces_left at.entry;
+      failed = None;
+    } }
 {
     IneqLines {
         bytes,
@@ -179,7 +199,8 @@ pub fn open_ineqs(alloc: Global, bytes: &[u8]) -> Result<AnyIneqLines<'_>, TextE
     // The text begins with a header, behind which the reader stands.
     ensures opened { IfOk result (IsOpenedAny bytes.now) }
     // What begins with a header is opened, unless memory runs out.
-    ensures only { (front rest : List Piece) (h : header.Header) → pieces_of bytes.now ≡ front ++ rest → header.IsHeader (codes "ineqs") front h → IfErr result IsNoFault }
+    ensures only { (front rest : List Piece) (h : header.Header) → pieces_of bytes.now ≡ front ++ rest →
+        header.IsHeader (codes "ineqs") front h → IfErr result IsNoFault }
     // A fault is the first one.
     ensures fault { IfErr result (IsRefusal SpellsInequalities inequality_file_at bytes.now) }
 {

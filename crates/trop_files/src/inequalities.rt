@@ -60,7 +60,10 @@ fn next_inequality<'a, S: Spelling>(
     requires names { length names.now ≤ 63 }
     requires width { system.old.n ≡ length names.now + 1 }
     requires room { length system.old.inequalities < 2 ^ 31 }
-    ensures gives { Gives (λ x. (next_of x.0 system.new.inequalities, pieces_left x.1)) result (list_step Syntax (spec.next_inequality S.KIND S.ring S.numbering names.now (ends end)) (λ before. inequality_rest_at S.KIND S.ring S.numbering greatest_number names.now) system.old.inequalities (pieces_left at.entry)) }
+    ensures gives { Gives (λ x. (next_of x.0 system.new.inequalities, pieces_left x.1)) result
+        (list_step Syntax (spec.next_inequality S.KIND S.ring S.numbering names.now (ends end))
+        (λ before. inequality_rest_at S.KIND S.ring S.numbering greatest_number names.now) system.old.inequalities
+        (pieces_left at.entry)) }
     ensures width { IfOk result (λ _. system.new.n ≡ system.old.n) }
     ensures count { IfOk result (λ _. length system.new.inequalities ≤ length system.old.inequalities + 1) }
 {
@@ -100,7 +103,8 @@ pub(crate) fn no_inequality<'a, S: Spelling>(
     at: Pieces<'a>,
     end: ListEnd,
 ) -> Result<Pieces<'a>, ReadErr<'a>>
-    ensures { Gives (λ rest. (tt, pieces_left rest)) result (token_at Syntax (spec.no_inequality S.KIND (ends end)) (pieces_left at.entry)) }
+    ensures { Gives (λ rest. (tt, pieces_left rest)) result
+        (token_at Syntax (spec.no_inequality S.KIND (ends end)) (pieces_left at.entry)) }
 {
     let Some((piece, rest)) = at.next() else {
         return Err(ReadErr::Wrong(FaultKind::Syntax, at));
@@ -122,7 +126,8 @@ pub(crate) fn inequalities<'a, S: Spelling>(
     end: ListEnd,
 ) -> Result<(System<S>, Pieces<'a>), ReadErr<'a>>
     requires { length names.now ≤ 63 }
-    ensures gives { Gives (λ x. (x.0.inequalities, pieces_left x.1)) result (spec.inequalities_at S.KIND S.ring S.numbering names.now (ends end) (pieces_left at.entry)) }
+    ensures gives { Gives (λ x. (x.0.inequalities, pieces_left x.1)) result
+        (spec.inequalities_at S.KIND S.ring S.numbering names.now (ends end) (pieces_left at.entry)) }
     ensures width { IfOk result (λ x. x.0.n ≡ length names.now + 1) }
 {
     let mut system = System::new(alloc, names.len() + 1);
@@ -145,7 +150,8 @@ fn ineq_lines<'a, S: Spelling>(
     at: Pieces<'a>,
 ) -> Result<(IneqFile<S>, Pieces<'a>), ReadErr<'a>>
     requires { length names ≤ 63 }
-    ensures gives { Gives (λ x. (x.0.system.inequalities, pieces_left x.1)) result (spec.inequalities_at S.KIND S.ring S.numbering names (ends Input) (pieces_left at.entry)) }
+    ensures gives { Gives (λ x. (x.0.system.inequalities, pieces_left x.1)) result
+        (spec.inequalities_at S.KIND S.ring S.numbering names (ends Input) (pieces_left at.entry)) }
     ensures names { IfOk result (λ x. x.0.names ≡ names) }
     ensures width { IfOk result (λ x. x.0.system.n ≡ length names + 1) }
 {
@@ -160,7 +166,8 @@ fn ineq_body<'a>(
     at: Pieces<'a>,
 ) -> Result<(AnyIneqs, Pieces<'a>), ReadErr<'a>>
     requires { length header.names ≤ 63 }
-    ensures gives { Gives (λ x. (inequality_file_of x.0, pieces_left x.1)) result (file_rest_at spec.inequalities_of_at spec.inequality_file (header_of header) (pieces_left at.entry)) }
+    ensures gives { Gives (λ x. (inequality_file_of x.0, pieces_left x.1)) result
+        (file_rest_at spec.inequalities_of_at spec.inequality_file (header_of header) (pieces_left at.entry)) }
     ensures width { IfOk result (λ x. IsWideIneqs x.0) }
 {
     let Header {
@@ -187,7 +194,8 @@ fn ineq_body<'a>(
 // A file of inequalities.
 #[tactic(auto, unfolding(trop_grammar::specs::Reading::read_then, crate::specs::Files::file_at))]
 fn ineq_file<'a>(alloc: Global, at: Pieces<'a>) -> Result<(AnyIneqs, Pieces<'a>), ReadErr<'a>>
-    ensures gives { Gives (λ x. (inequality_file_of x.0, pieces_left x.1)) result (spec.inequality_file_at (pieces_left at.entry)) }
+    ensures gives { Gives (λ x. (inequality_file_of x.0, pieces_left x.1)) result
+        (spec.inequality_file_at (pieces_left at.entry)) }
     ensures width { IfOk result (λ x. IsWideIneqs x.0) }
 {
     let (header, rest) = read_header(alloc, at, FileKind::Ineqs)?;
@@ -202,7 +210,8 @@ pub fn read_ineqs(alloc: Global, bytes: &[u8]) -> Result<AnyIneqs, TextErr>
     // What is read is spelled so.
     ensures found { IfOk result (λ file. spec.SpellsInequalities (pieces_of bytes.now) (inequality_file_of file)) }
     // What is spelled so is read, unless memory runs out.
-    ensures only { (file : spec.InequalityFile) → spec.SpellsInequalities (pieces_of bytes.now) file → AnswersWith inequality_file_of result file }
+    ensures only { (file : spec.InequalityFile) → spec.SpellsInequalities (pieces_of bytes.now) file →
+        AnswersWith inequality_file_of result file }
     // A fault is the first one.
     ensures fault { IfErr result (IsRefusal spec.SpellsInequalities spec.inequality_file_at bytes.now) }
     ensures width { IfOk result IsWideIneqs }

@@ -48,7 +48,8 @@ fn two<'a, S: Spelling>(
     at: Pieces<'a>,
 ) -> Result<(PairFile<S>, Pieces<'a>), ReadErr<'a>>
     requires { length names ≤ 63 }
-    ensures gives { Gives (λ x. (two_of x.0, pieces_left x.1)) result (spec.two_at S.KIND S.ring S.numbering (length names) (pieces_left at.entry)) }
+    ensures gives { Gives (λ x. (two_of x.0, pieces_left x.1)) result
+        (spec.two_at S.KIND S.ring S.numbering (length names) (pieces_left at.entry)) }
     ensures names { IfOk result (λ x. x.0.names ≡ names) }
     ensures left_width { IfOk result (λ x. x.0.left.n ≡ length names + 1) }
     ensures right_width { IfOk result (λ x. x.0.right.n ≡ length names + 1) }
@@ -69,7 +70,8 @@ fn pair_body<'a>(
     at: Pieces<'a>,
 ) -> Result<(AnyPair, Pieces<'a>), ReadErr<'a>>
     requires { length header.names ≤ 63 }
-    ensures gives { Gives (λ x. (two_file_of x.0, pieces_left x.1)) result (file_rest_at spec.two_of_at spec.two_file (header_of header) (pieces_left at.entry)) }
+    ensures gives { Gives (λ x. (two_file_of x.0, pieces_left x.1)) result
+        (file_rest_at spec.two_of_at spec.two_file (header_of header) (pieces_left at.entry)) }
     ensures width { IfOk result (λ x. IsWidePair x.0) }
 {
     let Header {
@@ -111,7 +113,8 @@ pub fn read_pair(alloc: Global, bytes: &[u8]) -> Result<AnyPair, TextErr>
     // What is read is spelled so.
     ensures found { IfOk result (λ file. spec.SpellsTwo (pieces_of bytes.now) (two_file_of file)) }
     // What is spelled so is read, unless memory runs out.
-    ensures only { (file : spec.TwoFile) → spec.SpellsTwo (pieces_of bytes.now) file → AnswersWith two_file_of result file }
+    ensures only { (file : spec.TwoFile) → spec.SpellsTwo (pieces_of bytes.now) file →
+        AnswersWith two_file_of result file }
     // A fault is the first one.
     ensures fault { IfErr result (IsRefusal spec.SpellsTwo spec.two_file_at bytes.now) }
     ensures width { IfOk result IsWidePair }

@@ -15,7 +15,8 @@ use trop_row::{Gens, System};
 use trop_spelling::{NoMemory, Spelling, push_inequality, push_row};
 use trop_text::Names;
 
-/// The file of generators with these rows, which are in normal form, in the variables with these names. Where a file may
+/// The file of generators with these rows, which are in normal form, in the variables with these names. Where a file
+/// may
 /// hold them, it is read back as these names and rows.
 pub fn print_gens<S: Spelling>(
     alloc: Global,
@@ -25,7 +26,9 @@ pub fn print_gens<S: Spelling>(
     requires names { gens.now.n ≡ length names.now + 1 }
     requires normal { All (IsNormal S.ring) gens.now.rows }
     ensures text { IfOk result (λ text. text.items ≡ printed_gens S.KIND S.numbering names.now gens.now.rows) }
-    ensures read_back { length gens.now.rows ≤ most_generators → rows_size S.ring gens.now.rows ≤ greatest_number → IfOk result (λ text. SpellsGenerators (pieces_of text.items) (record { names = names.now; vars_line = 3; rows = S.three.over Rows gens.now.rows })) }
+    ensures read_back { length gens.now.rows ≤ most_generators → rows_size S.ring gens.now.rows ≤ greatest_number →
+        IfOk result (λ text. SpellsGenerators (pieces_of text.items)
+        (record { names = names.now; vars_line = 3; rows = S.three.over Rows gens.now.rows })) }
 {
     let mut text = Vec::new(alloc);
     push_header::<S>(&mut text, b"gens", names)?;
@@ -36,7 +39,8 @@ pub fn print_gens<S: Spelling>(
     Ok(text)
 }
 
-/// The file of these inequalities, in the variables with these names. Where a file may hold them, it is read back as these
+/// The file of these inequalities, in the variables with these names. Where a file may hold them, it is read back as
+/// these
 /// names and inequalities.
 pub fn print_ineqs<S: Spelling>(
     alloc: Global,
@@ -45,7 +49,10 @@ pub fn print_ineqs<S: Spelling>(
 ) -> Result<Vec<u8>, NoMemory>
     requires { system.now.n ≡ length names.now + 1 }
     ensures text { IfOk result (λ text. text.items ≡ printed_ineqs S.KIND S.numbering names.now system.now.inequalities) }
-    ensures read_back { length system.now.inequalities ≤ most_inequalities → system_size S.ring system.now.inequalities ≤ greatest_number → IfOk result (λ text. SpellsInequalities (pieces_of text.items) (record { names = names.now; inequalities = S.three.over Systems system.now.inequalities })) }
+    ensures read_back { length system.now.inequalities ≤ most_inequalities →
+        system_size S.ring system.now.inequalities ≤ greatest_number →
+        IfOk result (λ text. SpellsInequalities (pieces_of text.items)
+        (record { names = names.now; inequalities = S.three.over Systems system.now.inequalities })) }
 {
     let mut text = Vec::new(alloc);
     push_header::<S>(&mut text, b"ineqs", names)?;

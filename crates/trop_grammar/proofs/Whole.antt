@@ -12,17 +12,21 @@ pub record IsLastAlone {T : Type 0} (P : T → Type 0) (ts : List T) : Type 0 wh
 
 module _ {T W A : Type 0} {r : List T → Reading T W A} {R : List T → A → Type 0} (h : Reads Anything r R) where
   -- a reader of texts that end with a token of P goes to the end
-  pub left_none : {P : T → Type 0} → EndsWith P R → (ts : List T) → IsLastAlone P ts → (x : A) (rest : List T) → r ts ≡ Ok (x, rest) → rest ≡ []
+  pub left_none : {P : T → Type 0} → EndsWith P R → (ts : List T) → IsLastAlone P ts → (x : A) (rest : List T) →
+      r ts ≡ Ok (x, rest) → rest ≡ []
   left_none ends ts alone x rest e =
       let t = h.takes ts x rest e in
       let l = ends.at t.taken x t.is in
-      alone.at l.front l.token rest (t.whole ∙ ap (λ (z : List T). z ++ rest) l.whole ∙ append_assoc l.front (l.token ∷ []) rest) l.is
+      alone.at l.front l.token rest (t.whole ∙ ap (λ (z : List T). z ++ rest) l.whole
+      ∙ append_assoc l.front (l.token ∷ []) rest) l.is
 
   -- what is read is spelled by the whole text
-  pub found : {P : T → Type 0} → EndsWith P R → (ts : List T) → IsLastAlone P ts → (x : A) (rest : List T) → r ts ≡ Ok (x, rest) → R ts x
+  pub found : {P : T → Type 0} → EndsWith P R → (ts : List T) → IsLastAlone P ts → (x : A) (rest : List T) →
+      r ts ≡ Ok (x, rest) → R ts x
   found ends ts alone x rest e =
       let t = h.takes ts x rest e in
-      let whole : t.taken ≡ ts = sym (t.whole ∙ ap (λ (z : List T). t.taken ++ z) (left_none ends ts alone x rest e) ∙ append-nil t.taken) in
+      let whole : t.taken ≡ ts = sym (t.whole ∙ ap (λ (z : List T). t.taken ++ z) (left_none ends ts alone x rest e)
+      ∙ append-nil t.taken) in
       subst (λ (z : List T). R z x) whole t.is
 
   -- what is spelled is read, and nothing is left
@@ -42,7 +46,8 @@ module _ {T W A : Type 0} {r : List T → Reading T W A} {R : List T → A → T
         begins = k.begins;
         stops = λ t others at begun.
             let good = only ((k.before ++ t ∷ []) ++ begun.more) begun.value begun.is in
-            no_both (k.before ++ t ∷ begun.more) (begun.value, []) _ (ap r (sym (append_assoc k.before (t ∷ []) begun.more)) ∙ good) (k.again t others begun.more at);
+            no_both (k.before ++ t ∷ begun.more) (begun.value, []) _
+            (ap r (sym (append_assoc k.before (t ∷ []) begun.more)) ∙ good) (k.again t others begun.more at);
         spelled = λ x s. no_both ts (x, []) miss (only ts x s) e;
       }
 
@@ -59,9 +64,20 @@ module _ {T W A : Type 0} {r : List T → Reading T W A} {R : List T → A → T
       record {
         before = k.before;
         whole = k.whole;
-        begins = record { more = k.begins.more; value = k.begins.value; is = record { front = k.before ++ k.begins.more; back = []; whole = sym (append-nil (k.before ++ k.begins.more)); is = k.begins.is } };
+        begins = record {
+          more = k.begins.more;
+          value = k.begins.value;
+          is =
+              record {
+                front = k.before ++ k.begins.more;
+                back = [];
+                whole = sym (append-nil (k.before ++ k.begins.more));
+                is = k.begins.is;
+              };
+        };
         stops = λ t others at begun.
             let good = only_front ((k.before ++ t ∷ []) ++ begun.more) begun.value begun.is in
-            no_both (k.before ++ t ∷ begun.more) (begun.value, begun.is.back) _ (ap r (sym (append_assoc k.before (t ∷ []) begun.more)) ∙ good) (k.again t others begun.more at);
+            no_both (k.before ++ t ∷ begun.more) (begun.value, begun.is.back) _
+            (ap r (sym (append_assoc k.before (t ∷ []) begun.more)) ∙ good) (k.again t others begun.more at);
         spelled = λ x s. no_both ts (x, s.back) miss (only_front ts x s) e;
       }

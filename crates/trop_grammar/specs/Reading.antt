@@ -16,7 +16,8 @@ go_on (Ok x) f = f x.0 x.1
 go_on (Err miss) f = Err miss
 
 -- first r, and with its value s
-unfoldable pub read_then : {T W A B : Type 0} → (List T → Reading T W A) → (A → List T → Reading T W B) → List T → Reading T W B
+unfoldable pub read_then : {T W A B : Type 0} → (List T → Reading T W A) → (A → List T → Reading T W B) → List T →
+    Reading T W B
 read_then r s ts = go_on (r ts) s
 
 infixl 10 ◌>>=◌
@@ -42,7 +43,8 @@ abbrev pub announced : {T W A B : Type 0} → Option A → B → (A → List T �
 announced (Some a) x r t ts = r a ts
 announced None x r t ts = Ok (x, t ∷ ts)
 
-unfoldable pub option_at : {T W A B : Type 0} → (T → Option A) → B → (A → List T → Reading T W B) → List T → Reading T W B
+unfoldable pub option_at : {T W A B : Type 0} → (T → Option A) → B → (A → List T → Reading T W B) → List T →
+    Reading T W B
 option_at announce x r [] = Ok (x, [])
 option_at announce x r (t ∷ ts) = announced (announce t) x r t ts
 
@@ -61,6 +63,7 @@ go_further further (More x) ts = further x ts
 go_further further (Done y) ts = Ok (y, ts)
 
 -- Steps until one ends the list, n at most; then the last step ends it, or says what is wrong.
-unfoldable pub until_at : {T W A B : Type 0} → (A → List T → Reading T W (Next A B)) → (A → List T → Reading T W B) → ℕ → A → List T → Reading T W B
+unfoldable pub until_at : {T W A B : Type 0} → (A → List T → Reading T W (Next A B)) → (A → List T → Reading T W B) →
+    ℕ → A → List T → Reading T W B
 until_at step last zero x = last x
 until_at step last (suc n) x = step x >>= go_further (until_at step last n)

@@ -18,11 +18,13 @@ pub record IsFirstFault {T A : Type 0} (R : List T → A → Type 0) (ts rest : 
   pub spelled : (x : A) → R ts x → ⊥
 
 -- Where r stops: the tokens before begin a text, and whatever follows the next token, r stops there in the same way.
-pub record IsStop {T W A : Type 0} (r : List T → Reading T W A) (R : List T → A → Type 0) (ts : List T) (miss : Miss T W) : Type 0 where
+pub record IsStop {T W A : Type 0} (r : List T → Reading T W A) (R : List T → A → Type 0) (ts : List T)
+    (miss : Miss T W) : Type 0 where
   pub before : List T
   pub whole : ts ≡ before ++ miss.rest
   pub begins : Begins R before
-  pub again : (t : T) (rest other : List T) → miss.rest ≡ t ∷ rest → r (before ++ t ∷ other) ≡ Err (record { what = miss.what; rest = t ∷ other })
+  pub again : (t : T) (rest other : List T) → miss.rest ≡ t ∷ rest →
+      r (before ++ t ∷ other) ≡ Err (record { what = miss.what; rest = t ∷ other })
 
 -- the same next token, or none in both
 abbrev pub SameNext : {T : Type 0} → List T → List T → Type 0
@@ -31,14 +33,16 @@ SameNext (t ∷ ts) (u ∷ us) = t ≡ u
 SameNext _ _ = ⊥
 
 -- What r took: the tokens us, which spell x, and it takes the same before other tokens if the next one is the same.
-pub record IsTaken {T W A : Type 0} (r : List T → Reading T W A) (R : List T → A → Type 0) (ts : List T) (x : A) (rest : List T) : Type 0 where
+pub record IsTaken {T W A : Type 0} (r : List T → Reading T W A) (R : List T → A → Type 0) (ts : List T) (x : A)
+    (rest : List T) : Type 0 where
   pub taken : List T
   pub whole : ts ≡ taken ++ rest
   pub is : R taken x
   pub again : (other : List T) → SameNext rest other → r (taken ++ other) ≡ Ok (x, other)
 
 -- r reads from the front of the tokens exactly the texts of R, where E holds of what follows
-pub record Reads {T W A : Type 0} (E : List T → Type 0) (r : List T → Reading T W A) (R : List T → A → Type 0) : Type 0 where
+pub record Reads {T W A : Type 0} (E : List T → Type 0) (r : List T → Reading T W A)
+    (R : List T → A → Type 0) : Type 0 where
   pub some : Begins R []
   pub takes : (ts : List T) (x : A) (rest : List T) → r ts ≡ Ok (x, rest) → IsTaken r R ts x rest
   pub reads : (us rest : List T) (x : A) → R us x → E rest → r (us ++ rest) ≡ Ok (x, rest)

@@ -6,7 +6,8 @@ pub Consumes-none : (a : Option (List ℕ)) → Consumes a a []
 Consumes-none None = tt
 Consumes-none (Some xs) = refl
 
-pub Consumes-more : (a b c : Option (List ℕ)) (xs ys : List ℕ) → Consumes a b xs → Consumes b c ys → Consumes a c (xs ++ ys)
+pub Consumes-more : (a b c : Option (List ℕ)) (xs ys : List ℕ) → Consumes a b xs → Consumes b c ys →
+    Consumes a c (xs ++ ys)
 Consumes-more None b c xs ys p q = tt
 Consumes-more (Some us) None c xs ys p q = absurd p
 Consumes-more (Some us) (Some vs) None xs ys p q = absurd q

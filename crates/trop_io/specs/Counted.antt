@@ -19,17 +19,20 @@ IsTaken before now (Some (suc k)) result = IsHandedOn before now (Some (suc k)) 
 IsTaken before now None result = IsHandedOn before now None result
 
 -- A read of the stream answered, as `answers` says, and its answer was handed on.
-pub record HandsOnRead {T : Type 0} (answers : T → Option ℕ → T → Type 0) (old new : Counted T) (result : Result ℕ Failed) : Type 0 where
+pub record HandsOnRead {T : Type 0} (answers : T → Option ℕ → T → Type 0) (old new : Counted T)
+    (result : Result ℕ Failed) : Type 0 where
   pub answer : Option ℕ
   pub given : answers old.end answer new.end
   pub handed_on : IsHandedOn old.faults new.faults answer result
 
 -- The same of a write. An empty piece isn't handed on.
-pub record HandsOnPiece {T : Type 0} (answers : T → Option ℕ → T → Type 0) (old new : Counted T) (result : Result ℕ Failed) : Type 0 where
+pub record HandsOnPiece {T : Type 0} (answers : T → Option ℕ → T → Type 0) (old new : Counted T)
+    (result : Result ℕ Failed) : Type 0 where
   pub answer : Option ℕ
   pub given : answers old.end answer new.end
   pub handed_on : IsTaken old.faults new.faults answer result
 
-abbrev pub HandsOnWrite : {T : Type 0} → (T → Option ℕ → T → Type 0) → Counted T → Counted T → ℕ → Result ℕ Failed → Type 0
+abbrev pub HandsOnWrite : {T : Type 0} → (T → Option ℕ → T → Type 0) → Counted T → Counted T → ℕ → Result ℕ Failed →
+    Type 0
 HandsOnWrite answers old new zero result = (result ≡ Ok 0) × (new ≡ old)
 HandsOnWrite answers old new (suc k) result = HandsOnPiece answers old new result

@@ -30,8 +30,22 @@ pub record SureState : Type 0 where
 abbrev pub source_after : SourceState → ℕ → SourceState
 source_after s room =
     if fails_next s.failing s.calls
-    then record { left = s.left; piece = s.piece; failing = s.failing; calls = next_count s.calls; faults = next_count s.faults }
-    else record { left = drop (given s.left s.piece room) s.left; piece = s.piece; failing = s.failing; calls = next_count s.calls; faults = s.faults }
+    then record {
+      left = s.left;
+      piece = s.piece;
+      failing = s.failing;
+      calls = next_count s.calls;
+      faults =
+          next_count s.faults;
+    }
+    else record {
+      left = drop (given s.left s.piece room) s.left;
+      piece = s.piece;
+      failing = s.failing;
+      calls =
+          next_count s.calls;
+      faults = s.faults;
+    }
 
 -- what a call answers
 abbrev pub source_answer : SourceState → ℕ → Result ℕ Failed
@@ -57,8 +71,25 @@ taken_in s from = min (min s.piece (length from)) (s.room - length s.bytes)
 abbrev pub sink_after : SinkState → List ℕ → SinkState
 sink_after s from =
     if length from == 0 then s else (if refuses_next s
-    then record { bytes = s.bytes; room = s.room; piece = s.piece; failing = s.failing; calls = next_count s.calls; faults = next_count s.faults }
-    else record { bytes = s.bytes ++ take (taken_in s from) from; room = s.room; piece = s.piece; failing = s.failing; calls = next_count s.calls; faults = s.faults })
+    then record {
+      bytes = s.bytes;
+      room = s.room;
+      piece = s.piece;
+      failing = s.failing;
+      calls =
+          next_count s.calls;
+      faults = next_count s.faults;
+    }
+    else record {
+      bytes = s.bytes ++ take (taken_in s from) from;
+      room = s.room;
+      piece = s.piece;
+      failing =
+          s.failing;
+      calls = next_count s.calls;
+      faults = s.faults;
+    })
 
 abbrev pub sink_answer : SinkState → List ℕ → Result ℕ Failed
-sink_answer s from = if length from == 0 then Ok 0 else (if refuses_next s then Err (record {}) else Ok (taken_in s from))
+sink_answer s from = if length from == 0 then Ok 0 else
+    (if refuses_next s then Err (record {}) else Ok (taken_in s from))

@@ -1,10 +1,15 @@
-//! Streams of bytes whose failures can be counted, so that an answer "the read failed" has a cause that a caller can check.
+//! Streams of bytes whose failures can be counted, so that an answer "the read failed" has a cause that a caller can
+//! check.
 //!
-//! A [`Source`] gives bytes and a [`Sink`] takes them. Each keeps a count of its faults, and says, where it knows them, which
-//! bytes are left or held. [`read_all`] and [`write_all`] go over any of them; [`MemSource`], [`MemSink`], [`SureSource`] and
-//! [`SureSink`] are in memory, for tests and for callers that have the bytes; [`StdSource`] and [`StdSink`] adapt std's.
+//! A [`Source`] gives bytes and a [`Sink`] takes them. Each keeps a count of its faults, and says, where it knows them,
+//! which
+//! bytes are left or held. [`read_all`] and [`write_all`] go over any of them; [`MemSource`], [`MemSink`],
+//! [`SureSource`] and
+//! [`SureSink`] are in memory, for tests and for callers that have the bytes; [`StdSource`] and [`StdSink`] adapt
+//! std's.
 //!
-//! Counts are `u64` and stay at their last value, so "the count rose" means: it is greater than before, or at its last value.
+//! Counts are `u64` and stay at their last value, so "the count rose" means: it is greater than before, or at its last
+//! value.
 #![tactic(auto)]
 
 mod fault;

@@ -13,7 +13,8 @@ use std::marker::Model;
 
 /// A sink in memory with a fixed room, which takes pieces, and whose writes fail by their numbers.
 ///
-/// Contracts see the bytes that it holds, its room, the greatest piece, the numbers of the writes that fail, how many writes
+/// Contracts see the bytes that it holds, its room, the greatest piece, the numbers of the writes that fail, how many
+/// writes
 /// were made and how many of them failed. Writes of an empty piece aren't counted.
 #[derive(Drop)]
 pub struct MemSink {
@@ -28,13 +29,22 @@ pub struct MemSink {
 impl Model for MemSink {
     ghost Value = { SinkState };
 
-    ghost view = { λ s. record { bytes = s.bytes.items; room = s.room; piece = s.piece; failing = s.failing.items; calls = s.calls; faults = s.faults } };
+    ghost view = { λ s. record {
+      bytes = s.bytes.items;
+      room = s.room;
+      piece = s.piece;
+      failing =
+          s.failing.items;
+      calls = s.calls;
+      faults = s.faults;
+    } };
 
     ghost invariant = { λ s. (length s.bytes.items ≤ s.room) × (s.room ≤ vec_capacity s.bytes) × (0 < s.piece) };
 }
 
 impl MemSink {
-    /// An empty sink that takes its `room` at once, takes at most `piece` bytes a write, and whose writes with the numbers in
+    /// An empty sink that takes its `room` at once, takes at most `piece` bytes a write, and whose writes with the
+    /// numbers in
     /// `failing`, counted from 1, fail. A write that finds no room left fails too.
     pub fn new(
         alloc: Global,
@@ -43,7 +53,15 @@ impl MemSink {
         failing: Vec<u64>,
     ) -> Result<Self, NoMemory>
         requires { 0 < piece }
-        ensures { IfOk result (λ s. s ≡ record { bytes = []; room = room; piece = piece; failing = failing.items; calls = 0; faults = 0 }) }
+        ensures { IfOk result (λ s. s ≡ record {
+          bytes = [];
+          room = room;
+          piece = piece;
+          failing =
+              failing.items;
+          calls = 0;
+          faults = 0;
+        }) }
     {
         Ok(MemSink {
             bytes: Vec::with_capacity(alloc, room)?,

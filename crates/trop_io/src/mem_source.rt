@@ -12,7 +12,8 @@ use std::marker::Model;
 
 /// Bytes in memory that come in pieces, and reads that fail by their numbers.
 ///
-/// Contracts see the bytes that are left, the greatest piece, the numbers of the reads that fail, how many reads were made and
+/// Contracts see the bytes that are left, the greatest piece, the numbers of the reads that fail, how many reads were
+/// made and
 /// how many of them failed.
 #[derive(Drop)]
 pub struct MemSource {
@@ -27,13 +28,21 @@ pub struct MemSource {
 impl Model for MemSource {
     ghost Value = { SourceState };
 
-    ghost view = { λ s. record { left = drop s.taken s.bytes.items; piece = s.piece; failing = s.failing.items; calls = s.calls; faults = s.faults } };
+    ghost view = { λ s. record {
+      left = drop s.taken s.bytes.items;
+      piece = s.piece;
+      failing = s.failing.items;
+      calls =
+          s.calls;
+      faults = s.faults;
+    } };
 
     ghost invariant = { λ s. (s.taken ≤ length s.bytes.items) × (0 < s.piece) };
 }
 
 impl MemSource {
-    /// A source of `bytes` that gives at most `piece` of them a read, and whose reads with the numbers in `failing`, counted
+    /// A source of `bytes` that gives at most `piece` of them a read, and whose reads with the numbers in `failing`,
+    /// counted
     /// from 1, fail.
     pub fn new(bytes: Vec<u8>, piece: usize, failing: Vec<u64>) -> Self
         requires { 0 < piece }

@@ -18,7 +18,8 @@ pub trait Source {
     /// A count that no read raises by more than one, such as the number of reads made.
     ghost calls: { Self → ℕ };
 
-    /// Reads into the front of `buf`, and answers how many bytes. They are the front of what was left, and the rest is left.
+    /// Reads into the front of `buf`, and answers how many bytes. They are the front of what was left, and the rest is
+    /// left.
     /// `Ok(0)` on a buffer that isn't empty means that nothing is left. The count of faults is as before then.
     ///
     /// Errors: [`Failed`] only where the count of faults rose in this call; nothing is taken then.

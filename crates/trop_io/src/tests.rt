@@ -1,3 +1,4 @@
+//! Reading and writing with faults in between, piece by piece.
 use super::*;
 use std::alloc::Global;
 use std::test::Fail;

@@ -6,12 +6,14 @@ ghost use Rattle.trop_io.specs.Whole.{WritesAll};
 use crate::Sink;
 use thiserror::Error;
 
-/// A write failed before the whole was written: the sink's count of faults rose, and a proper front of the bytes was appended.
+/// A write failed before the whole was written: the sink's count of faults rose, and a proper front of the bytes was
+/// appended.
 #[derive(Clone, Copy, Debug, PartialEq, Eq, Error)]
 #[error("write failed")]
 pub struct WriteFault;
 
-/// Writes all bytes. It takes no memory. No failed write is tried again: the sink's count of faults is as before, but with
+/// Writes all bytes. It takes no memory. No failed write is tried again: the sink's count of faults is as before, but
+/// with
 /// the error.
 ///
 /// Errors: [`WriteFault`] only where the sink's count of faults rose in this call.

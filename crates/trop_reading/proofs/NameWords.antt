@@ -13,7 +13,8 @@ false_if false h = refl
 
 -- the first that passes is found
 module _ {X : Type 0} (p : X → Bool) (d : X) where
-  first_passes : (xs : List X) (k : ℕ) → k < length xs → ((j : ℕ) → j < k → p (get_or xs j d) ≡ false) → p (get_or xs k d) ≡ true → position_or_len p xs ≡ k
+  first_passes : (xs : List X) (k : ℕ) → k < length xs → ((j : ℕ) → j < k → p (get_or xs j d) ≡ false) →
+      p (get_or xs k d) ≡ true → position_or_len p xs ≡ k
   first_passes [] k h before here = absurd (omega arith)
   first_passes (x ∷ xs) zero h before here = ap (λ b. cond (not b) (1 + position_or_len p xs) 0) here
   first_passes (x ∷ xs) (suc k) h before here =
@@ -25,7 +26,8 @@ module _ {X : Type 0} (p : X → Bool) (d : X) where
   position_is xs n k h e l = rw (e, ← l, lt-ltb k n h) refl
 
 -- each name is found at its place
-pub place_at : (names : List (List ℕ)) (k : ℕ) → AreNames names → k < length names → place_of (get_or names k []) names ≡ Some k
+pub place_at : (names : List (List ℕ)) (k : ℕ) → AreNames names → k < length names →
+    place_of (get_or names k []) names ≡ Some k
 place_at names k are h =
     let name = get_or names k [] in
     let same : bytes_eq name name ≡ true = (bytes_eq-Decides name name).1 refl in

@@ -18,7 +18,8 @@ sample text = Token (record { kind = Word; text = text; line = 1; column = 1 })
 abbrev pub nought : Piece
 nought = Token (record { kind = Digits; text = codes "0"; line = 1; column = 1 })
 
-pub said_reads : (text : List ℕ) (e : said text (sample text) ≡ Ok tt) → Reads Anything (token_at Syntax (said text)) (One (Passes (said text)))
+pub said_reads : (text : List ℕ) (e : said text (sample text) ≡ Ok tt) →
+    Reads Anything (token_at Syntax (said text)) (One (Passes (said text)))
 said_reads text e = Reads-judged Syntax (said text) (sample text) tt e
 
 pub line_end_reads : Reads Anything (token_at Syntax line_end) (One (Passes line_end))

@@ -8,7 +8,9 @@ use Rattle.trop_text.specs.declared.fault.FaultKind.{FaultKind}
 use Rattle.trop_text.specs.declared.fault.FaultKind.TheVariants.{Syntax, NumberRange}
 use Rattle.trop_reading.specs.Words.{text_of, is_digits, number, passed}
 
-number_below : (digits inside : Bool) (value bound n : ℕ) → ((inside ≡ true) → value ≤ bound) → (let r : Result ℕ FaultKind = if digits then (if inside then Ok value else Err NumberRange) else Err Syntax in r) ≡ Ok n → n ≤ bound
+number_below : (digits inside : Bool) (value bound n : ℕ) → ((inside ≡ true) → value ≤ bound) →
+    (let r : Result ℕ FaultKind = if digits then (if inside then Ok value else Err NumberRange) else Err Syntax in r) ≡
+    Ok n → n ≤ bound
 number_below true true value bound n below e = let same : value ≡ n = cc in subst (λ v. v ≤ bound) same (below refl)
 number_below true false value bound n below e = cc
 number_below false inside value bound n below e = cc
@@ -22,9 +24,12 @@ le_of_test a b (inr h) e = absurd (false_true (sym h.0 ∙ e))
 
 pub number_bound : (bound n : ℕ) (p : Piece) → number bound p ≡ Ok n → n ≤ bound
 unfolding number
-number_bound bound n p e = number_below (is_digits p) (nat_le (number_of (text_of p)) bound) (number_of (text_of p)) bound n (le_of_test (number_of (text_of p)) bound (leb_tells (number_of (text_of p)) bound)) e
+number_bound bound n p e = number_below (is_digits p) (nat_le (number_of (text_of p)) bound)
+    (number_of (text_of p)) bound n (le_of_test (number_of (text_of p)) bound (leb_tells (number_of (text_of p)) bound))
+    e
 
 -- what a judge let pass stands for a number that it let pass
-pub passed_number : {B : Type 0} (f : ℕ → B) (bound : ℕ) (p : Piece) (r : Result ℕ FaultKind) (y : B) → ((n : ℕ) → r ≡ Ok n → n ≤ bound) → passed f r ≡ Ok y → (n : ℕ) × (n ≤ bound) × (f n ≡ y)
+pub passed_number : {B : Type 0} (f : ℕ → B) (bound : ℕ) (p : Piece) (r : Result ℕ FaultKind) (y : B) →
+    ((n : ℕ) → r ≡ Ok n → n ≤ bound) → passed f r ≡ Ok y → (n : ℕ) × (n ≤ bound) × (f n ≡ y)
 passed_number f bound p (Ok n) y below e = let same : f n ≡ y = cc in (n, below n refl, same)
 passed_number f bound p (Err what) y below e = cc

@@ -31,17 +31,35 @@ none_written {S} {G} is = record { at = at }
         record { tokens = []; lexed = ap (λ c. tokens_past 0 rest line c) place; on = tt; is = is }
 
 -- a text of R, and then one of S
-pub written_then : {A B : Type 0} {R : List Piece → A → Type 0} {S : A → List Piece → B → Type 0} {Stops StopsMore : List ℕ → Type 0} (x : A) (y : B) (text more : List ℕ) → ((rest : List ℕ) → StopsMore rest → Stops (more ++ rest))
-    → IsWritten Stops text (λ us. R us x) → IsWritten StopsMore more (λ us. S x us y) → IsWritten StopsMore (text ++ more) (λ us. Then R S us y)
-written_then x y text more stops r s = written_join (λ us vs g h. record { front = us; back = vs; value = x; whole = refl; first = g; second = h }) stops r s
+pub written_then : {A B : Type 0} {R : List Piece → A → Type 0} {S : A → List Piece → B → Type 0}
+    {Stops StopsMore : List ℕ → Type 0} (x : A) (y : B) (text more : List ℕ) →
+    ((rest : List ℕ) → StopsMore rest → Stops (more ++ rest))
+    → IsWritten Stops text (λ us. R us x) → IsWritten StopsMore more (λ us. S x us y) →
+    IsWritten StopsMore (text ++ more) (λ us. Then R S us y)
+written_then x y text more stops r s = written_join
+    (λ us vs g h. record { front = us; back = vs; value = x; whole = refl; first = g; second = h }) stops r s
 
 -- a text of R, and behind it no token
-pub written_last : {A B : Type 0} {R : List Piece → A → Type 0} {S : A → List Piece → B → Type 0} {Stops : List ℕ → Type 0} {text : List ℕ} (x : A) (y : B) → S x [] y → IsWritten Stops text (λ us. R us x) → IsWritten Stops text (λ us. Then R S us y)
-written_last x y s r = written_as (λ us g. record { front = us; back = []; value = x; whole = sym (append-nil us); first = g; second = s }) (λ rest h. h) r
+pub written_last : {A B : Type 0} {R : List Piece → A → Type 0} {S : A → List Piece → B → Type 0}
+    {Stops : List ℕ → Type 0} {text : List ℕ} (x : A) (y : B) → S x [] y → IsWritten Stops text (λ us. R us x) →
+    IsWritten Stops text (λ us. Then R S us y)
+written_last x y s r = written_as (λ us g. record {
+  front = us;
+  back = [];
+  value = x;
+  whole =
+      sym (append-nil us);
+  first = g;
+  second = s;
+}) (λ rest h. h) r
 
 -- a token that the judge lets pass
-pub written_token : {A : Type 0} {judge : Piece → Result A FaultKind} {Stops : List ℕ → Type 0} {text : List ℕ} (kind : _) (x : A) → ((line column : ℕ) → judge (Token (tok kind text line column)) ≡ Ok x) → IsWritten Stops text (IsOne kind text) → IsWritten Stops text (λ us. One (Passes judge) us x)
-written_token {text = text} kind x passes one = written_as (λ us g. record { token = Token (tok kind text g.line g.column); whole = g.whole; is = passes g.line g.column }) (λ rest h. h) one
+pub written_token : {A : Type 0} {judge : Piece → Result A FaultKind} {Stops : List ℕ → Type 0} {text : List ℕ}
+    (kind : _) (x : A) → ((line column : ℕ) → judge (Token (tok kind text line column)) ≡ Ok x) →
+    IsWritten Stops text (IsOne kind text) → IsWritten Stops text (λ us. One (Passes judge) us x)
+written_token {text = text} kind x passes one = written_as
+    (λ us g. record { token = Token (tok kind text g.line g.column); whole = g.whole; is = passes g.line g.column })
+    (λ rest h. h) one
 
 -- ---- signs that stand alone
 
@@ -61,7 +79,12 @@ comma_alone = record { stands = (refl, refl, refl); no_letter = refl; no_digit =
 pub sign_said : (b : ℕ) → IsShort b → IsWritten Always (b ∷ []) (λ us. One (Passes (said (b ∷ []))) us tt)
 sign_said b is =
     let same : bytes_eq (b ∷ []) (b ∷ []) ≡ true = (bytes_eq-Decides (b ∷ []) (b ∷ [])).1 refl in
-    written_as (λ us g. record { token = Token (tok Sign (b ∷ []) g.line g.column); whole = g.whole; is = rw same refl }) (λ rest h. tt) (short_written b is)
+    written_as (λ us g. record {
+      token = Token (tok Sign (b ∷ []) g.line g.column);
+      whole = g.whole;
+      is =
+          rw same refl;
+    }) (λ rest h. tt) (short_written b is)
 
 -- ---- numbers
 
@@ -82,10 +105,12 @@ pub no_minus : (n : ℕ) → n < 2 ^ 64 → bytes_eq (decimal n) (codes "-") ≡
 no_minus n h = apart (decimal n) (codes "-") (λ e. let d = first_digit n 45 [] h e in absurd (omega (arith, d.0)))
 
 pub no_infinity : (n : ℕ) → n < 2 ^ 64 → bytes_eq (decimal n) (codes "oo") ≡ false
-no_infinity n h = apart (decimal n) (codes "oo") (λ e. let d = first_digit n 111 (111 ∷ []) h e in absurd (omega (arith, d.1)))
+no_infinity n h = apart (decimal n) (codes "oo") (λ e. let d = first_digit n 111 (111 ∷ []) h e in
+    absurd (omega (arith, d.1)))
 
 -- a printed number passes with its value
-pub number_passes : (n bound line column : ℕ) → n ≤ bound → n < 2 ^ 64 → number bound (Token (tok Digits (decimal n) line column)) ≡ Ok n
+pub number_passes : (n bound line column : ℕ) → n ≤ bound → n < 2 ^ 64 →
+    number bound (Token (tok Digits (decimal n) line column)) ≡ Ok n
 unfolding number
 number_passes n bound line column le h =
     let is = decimal_is_IsNumeral n h in

@@ -56,7 +56,8 @@ pub fn number(piece: Piece<'_>, bound: u64) -> Result<u64, FaultKind>
 /// This word or sign.
 #[tactic(auto, unfolding(trop_grammar::specs::Reading::token_at))]
 pub fn said<'a>(at: Pieces<'a>, text: &[u8]) -> Result<Pieces<'a>, ReadErr<'a>>
-    ensures gives { Gives (λ rest. (tt, pieces_left rest)) result (token_at Syntax (spec.said text.now) (pieces_left at.entry)) }
+    ensures gives { Gives (λ rest. (tt, pieces_left rest)) result
+        (token_at Syntax (spec.said text.now) (pieces_left at.entry)) }
     ensures source { IfOk result (λ rest. pieces_source rest ≡ pieces_source at.entry) }
 {
     match at.next() {

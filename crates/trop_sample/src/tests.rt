@@ -1,3 +1,4 @@
+//! Samples that were worked out by hand.
 use crate::make;
 use std::test::Fail;
 use trop_scalar::{MaxInt, Scalar};

@@ -40,7 +40,8 @@ one_word : {X : Type 0} (b : Bool) (x v : X) (w : FaultKind) → cond b (Ok x) (
 one_word true x v w e = refl
 one_word false x v w e = absurd cc
 
-two_words : {X : Type 0} (b c : Bool) (x y v : X) (w : FaultKind) → cond b (Ok x) (cond c (Ok y) (Err w)) ≡ Ok v → (b ≡ true) ⊎ (c ≡ true)
+two_words : {X : Type 0} (b c : Bool) (x y v : X) (w : FaultKind) → cond b (Ok x) (cond c (Ok y) (Err w)) ≡ Ok v →
+    (b ≡ true) ⊎ (c ≡ true)
 two_words true c x y v w e = inl refl
 two_words false true x y v w e = inr refl
 two_words false false x y v w e = absurd cc
@@ -52,19 +53,24 @@ behind_term p more rest e =
       | inr h ↦ no_shift (codes ")") p h refl
     ]
 
-behind_left : (kind : RingKind) (p : Piece) (turned : Bool) (rest : List Piece) → order_mark kind p ≡ Ok turned → NoShift (p ∷ rest)
+behind_left : (kind : RingKind) (p : Piece) (turned : Bool) (rest : List Piece) → order_mark kind p ≡ Ok turned →
+    NoShift (p ∷ rest)
 behind_left MaxKind p turned rest e =
-    elim (two_words (says (codes "<=") p) (says (codes ">=") p) false true turned Syntax e) [ inl h ↦ no_shift (codes "<=") p h refl | inr h ↦ no_shift (codes ">=") p h refl ]
+    elim (two_words (says (codes "<=") p) (says (codes ">=") p) false true turned Syntax e)
+    [ inl h ↦ no_shift (codes "<=") p h refl | inr h ↦ no_shift (codes ">=") p h refl ]
 behind_left MinKind p turned rest e =
-    elim (two_words (says (codes ">=") p) (says (codes "<=") p) false true turned Syntax e) [ inl h ↦ no_shift (codes ">=") p h refl | inr h ↦ no_shift (codes "<=") p h refl ]
-behind_left BoolKind p turned rest e = no_shift (codes "=>") p (one_word (says (codes "=>") p) false turned Syntax e) refl
+    elim (two_words (says (codes ">=") p) (says (codes "<=") p) false true turned Syntax e)
+    [ inl h ↦ no_shift (codes ">=") p h refl | inr h ↦ no_shift (codes "<=") p h refl ]
+behind_left BoolKind p turned rest e = no_shift (codes "=>") p (one_word (says (codes "=>") p) false turned Syntax e)
+    refl
 
 behind_right : (p : Piece) (u : Unit {0}) (rest : List Piece) → line_end p ≡ Ok u → NoShift (p ∷ rest)
 behind_right (LineEnd line) u rest e = refl
 behind_right (Token t) u rest e = absurd cc
 behind_right InputEnd u rest e = absurd cc
 
-closed_to : (b c : Bool) (u : Unit {0}) → (b ≡ true → c ≡ false) → cond c (Ok tt) (Err Syntax) ≡ Ok u → cond b (Ok true) (cond c (Ok false) (Err Syntax)) ≡ Ok false
+closed_to : (b c : Bool) (u : Unit {0}) → (b ≡ true → c ≡ false) → cond c (Ok tt) (Err Syntax) ≡ Ok u →
+    cond b (Ok true) (cond c (Ok false) (Err Syntax)) ≡ Ok false
 closed_to true true u apart e = let k = apart refl in absurd cc
 closed_to true false u apart e = absurd cc
 closed_to false true u apart e = refl
@@ -89,18 +95,22 @@ module _ {V : Type 0} (R : Semiring V) (N : Numbering V) (bound : ℕ) (names : 
 
   shifted_reads : (place : ℕ) (up : Bool) → Reads Anything (shifted_at N bound place up) (IsShifted N bound place up)
   unfolding shifted_at
-  shifted_reads place up = let z = nought_up up in Reads-then (Reads-judged Syntax (shift N bound up) nought z.0 z.1) (λ x. Reads-gives (term place x))
+  shifted_reads place up = let z = nought_up up in
+      Reads-then (Reads-judged Syntax (shift N bound up) nought z.0 z.1) (λ x. Reads-gives (term place x))
 
-  numeric_rest_reads : (behind : Piece → Result V FaultKind) (p : Piece) (x : V) → behind p ≡ Ok x → (start : Start V) → Reads NoShift (numeric_rest_at R N bound behind start) (IsNumericRest R N bound behind start)
+  numeric_rest_reads : (behind : Piece → Result V FaultKind) (p : Piece) (x : V) → behind p ≡ Ok x → (start : Start V) →
+      Reads NoShift (numeric_rest_at R N bound behind start) (IsNumericRest R N bound behind start)
   unfolding numeric_rest_at
   numeric_rest_reads behind p x e (Constant y) = Reads-gives (term 0 y)
   numeric_rest_reads behind p x e Minus = Reads-then (Reads-judged Syntax behind p x e) (λ y. Reads-gives (term 0 y))
   numeric_rest_reads behind p x e (Variable place) = Reads-option shift_sign (term place R.one) (shifted_reads place)
 
-  term_rest_reads : (kind : RingKind) (start : Start V) → Reads NoShift (term_rest_at kind R N bound start) (IsTermRest kind R N bound start)
+  term_rest_reads : (kind : RingKind) (start : Start V) →
+      Reads NoShift (term_rest_at kind R N bound start) (IsTermRest kind R N bound start)
   unfolding term_rest_at
   term_rest_reads MaxKind start = numeric_rest_reads (max_behind R N bound) (sample (codes "oo")) R.zero refl start
-  term_rest_reads MinKind start = numeric_rest_reads (min_behind N bound) nought (N.of (neg_ℤ (pos 0))) (nought_fits R N bound) start
+  term_rest_reads MinKind start = numeric_rest_reads (min_behind N bound) nought (N.of (neg_ℤ (pos 0)))
+      (nought_fits R N bound) start
   term_rest_reads BoolKind start = Reads-gives (truth_term R start)
 
   -- some token begins a term
@@ -112,9 +122,11 @@ module _ {V : Type 0} (R : Semiring V) (N : Numbering V) (bound : ℕ) (names : 
 
   term_reads : (kind : RingKind) → Reads NoShift (term_at kind R N bound names) (IsTerm kind R N bound names)
   unfolding term_at
-  term_reads kind = let s = start_some kind in Reads-then (Reads-judged Syntax (term_start kind R N bound names) s.0 s.1 s.2) (term_rest_reads kind)
+  term_reads kind = let s = start_some kind in Reads-then
+      (Reads-judged Syntax (term_start kind R N bound names) s.0 s.1 s.2) (term_rest_reads kind)
 
-  pub terms_parts : (kind : RingKind) → AreSeparators NoShift (term_at kind R N bound names) between_terms (said (codes ")")) (IsTerm kind R N bound names)
+  pub terms_parts : (kind : RingKind) → AreSeparators NoShift (term_at kind R N bound names) between_terms
+      (said (codes ")")) (IsTerm kind R N bound names)
   terms_parts kind = record {
     end = sample (codes ")");
     ends = refl;
@@ -124,33 +136,44 @@ module _ {V : Type 0} (R : Semiring V) (N : Numbering V) (bound : ℕ) (names : 
     close_from = λ p h. closed_from (says (codes ",") p) (says (codes ")") p) h;
   }
 
-  terms_reads : (kind : RingKind) → Reads Anything (terms_at kind R N bound names) (Separated (IsTerm kind R N bound names) (Passes between_terms))
+  terms_reads : (kind : RingKind) → Reads Anything (terms_at kind R N bound names)
+      (Separated (IsTerm kind R N bound names) (Passes between_terms))
   unfolding terms_at
-  terms_reads kind = Reads-separated Syntax NoShift (term_at kind R N bound names) between_terms (said (codes ")")) (IsTerm kind R N bound names) (terms_parts kind)
+  terms_reads kind = Reads-separated Syntax NoShift (term_at kind R N bound names) between_terms (said (codes ")"))
+      (IsTerm kind R N bound names) (terms_parts kind)
 
-  side_rest_reads : (kind : RingKind) (start : Option (Start V)) → Reads NoShift (side_rest_at kind R N bound names start) (IsSideRest kind R N bound names start)
+  side_rest_reads : (kind : RingKind) (start : Option (Start V)) →
+      Reads NoShift (side_rest_at kind R N bound names start) (IsSideRest kind R N bound names start)
   unfolding side_rest_at
-  side_rest_reads kind (Some start) = Reads-bind NoShift NoShift (term_rest_reads kind start) (λ t. Reads-gives (t ∷ [])) (λ t ws rest y h ends. subst (λ (z : List Piece). NoShift (z ++ rest)) (sym h.none) ends)
+  side_rest_reads kind (Some start) = Reads-bind NoShift NoShift (term_rest_reads kind start)
+      (λ t. Reads-gives (t ∷ [])) (λ t ws rest y h ends. subst (λ (z : List Piece). NoShift (z ++ rest))
+      (sym h.none) ends)
   side_rest_reads kind None = Reads-then (said_reads (codes "(") refl) (λ u. Reads-weaker (terms_reads kind))
 
-  side_some : (kind : RingKind) → (p : Piece) × (start : Option (Start V)) × (side_start kind R N bound names p ≡ Ok start)
+  side_some : (kind : RingKind) → (p : Piece) × (start : Option (Start V))
+      × (side_start kind R N bound names p ≡ Ok start)
   side_some MaxKind = (sample (codes "max"), None, refl)
   side_some MinKind = (sample (codes "min"), None, refl)
   side_some BoolKind = (sample (codes "or"), None, refl)
 
   side_reads : (kind : RingKind) → Reads NoShift (side_at kind R N bound names) (IsSide kind R N bound names)
   unfolding side_at
-  side_reads kind = let s = side_some kind in Reads-then (Reads-judged Syntax (side_start kind R N bound names) s.0 s.1 s.2) (side_rest_reads kind)
+  side_reads kind = let s = side_some kind in Reads-then
+      (Reads-judged Syntax (side_start kind R N bound names) s.0 s.1 s.2) (side_rest_reads kind)
 
   order_some : (kind : RingKind) → (p : Piece) × (turned : Bool) × (order_mark kind p ≡ Ok turned)
   order_some MaxKind = (sample (codes "<="), false, refl)
   order_some MinKind = (sample (codes ">="), false, refl)
   order_some BoolKind = (sample (codes "=>"), false, refl)
 
-  first_fits : {X : Type 0} (judge : Piece → Result X FaultKind) → ((p : Piece) (x : X) (rest : List Piece) → judge p ≡ Ok x → NoShift (p ∷ rest)) → (p : Piece) (x : X) (us ws rest : List Piece) → us ≡ (p ∷ []) ++ ws → judge p ≡ Ok x → NoShift (us ++ rest)
-  first_fits judge fits p x us ws rest whole e = subst (λ (z : List Piece). NoShift (z ++ rest)) (sym whole) (fits p x (ws ++ rest) e)
+  first_fits : {X : Type 0} (judge : Piece → Result X FaultKind) →
+      ((p : Piece) (x : X) (rest : List Piece) → judge p ≡ Ok x → NoShift (p ∷ rest)) →
+      (p : Piece) (x : X) (us ws rest : List Piece) → us ≡ (p ∷ []) ++ ws → judge p ≡ Ok x → NoShift (us ++ rest)
+  first_fits judge fits p x us ws rest whole e = subst (λ (z : List Piece). NoShift (z ++ rest)) (sym whole)
+      (fits p x (ws ++ rest) e)
 
-  pub inequality_rest_reads : (kind : RingKind) (start : Option (Start V)) → Reads Anything (inequality_rest_at kind R N bound names start) (IsInequalityRest kind R N bound names start)
+  pub inequality_rest_reads : (kind : RingKind) (start : Option (Start V)) →
+      Reads Anything (inequality_rest_at kind R N bound names start) (IsInequalityRest kind R N bound names start)
   unfolding inequality_rest_at
   inequality_rest_reads kind start =
       let o = order_some kind in
@@ -158,9 +181,13 @@ module _ {V : Type 0} (R : Semiring V) (N : Numbering V) (bound : ℕ) (names : 
       (λ p. Reads-then (Reads-judged Syntax (order_mark kind) o.0 o.1 o.2)
       (λ turned. Reads-bind NoShift Anything (side_reads kind)
       (λ q. Reads-then line_end_reads (λ u. Reads-gives (inequality R (length names + 1) turned p q)))
-      (λ q ws rest y h ends. first_fits line_end behind_right h.first.token h.value ws h.back rest (h.whole ∙ ap (λ (z : List Piece). z ++ h.back) h.first.whole) h.first.is)))
-      (λ p ws rest y h ends. first_fits (order_mark kind) (behind_left kind) h.first.token h.value ws h.back rest (h.whole ∙ ap (λ (z : List Piece). z ++ h.back) h.first.whole) h.first.is)
+      (λ q ws rest y h ends. first_fits line_end behind_right h.first.token h.value ws h.back rest
+      (h.whole ∙ ap (λ (z : List Piece). z ++ h.back) h.first.whole) h.first.is)))
+      (λ p ws rest y h ends. first_fits (order_mark kind) (behind_left kind) h.first.token h.value ws h.back rest
+      (h.whole ∙ ap (λ (z : List Piece). z ++ h.back) h.first.whole) h.first.is)
 
-  pub inequality_reads : (kind : RingKind) → Reads Anything (inequality_at kind R N bound names) (IsInequality kind R N bound names)
+  pub inequality_reads : (kind : RingKind) → Reads Anything (inequality_at kind R N bound names)
+      (IsInequality kind R N bound names)
   unfolding inequality_at
-  inequality_reads kind = let s = side_some kind in Reads-then (Reads-judged Syntax (side_start kind R N bound names) s.0 s.1 s.2) (inequality_rest_reads kind)
+  inequality_reads kind = let s = side_some kind in
+      Reads-then (Reads-judged Syntax (side_start kind R N bound names) s.0 s.1 s.2) (inequality_rest_reads kind)

@@ -11,7 +11,8 @@ use Rattle.trop_spelling.specs.Spelling.{KindLaws, IsTruthOnly}
 use Rattle.trop_spelling.specs.Printed.{numbers}
 use Rattle.trop_spelling.proofs.WrittenElements.{named, AreWithin}
 
-module _ {V : Type 0} (kind : RingKind) (reversed : Bool) (R : Semiring V) (N : Numbering V) (laws : NumberLaws R N) (known : KindLaws kind R N reversed) where
+module _ {V : Type 0} (kind : RingKind) (reversed : Bool) (R : Semiring V) (N : Numbering V) (laws : NumberLaws R N)
+    (known : KindLaws kind R N reversed) where
   number_of_one : (kind : RingKind) → KindLaws kind R N reversed → N.to R.one ≡ Some (pos 0)
   number_of_one MaxKind k = k.0.to-one
   number_of_one MinKind k = k.0.to-one
@@ -22,7 +23,8 @@ module _ {V : Type 0} (kind : RingKind) (reversed : Bool) (R : Semiring V) (N : 
   one_number = number_of_one kind known
 
   one_of_some : IsTruthOnly R N → (a : V) (n : ℤ) → N.to a ≡ Some n → a ≡ R.one
-  one_of_some truths a n e = ⊎_elim (λ z. let p : None ≡ Some n = sym ((laws.none a).1 z) ∙ e in absurd cc) (λ o. o) (truths.two a)
+  one_of_some truths a n e = ⊎_elim (λ z. let p : None ≡ Some n = sym ((laws.none a).1 z) ∙ e in absurd cc) (λ o. o)
+      (truths.two a)
 
   -- an element is named by its number
   named_by : (kind : RingKind) → KindLaws kind R N reversed → (a : V) (o : Option ℤ) → N.to a ≡ o → named kind R N o ≡ a
@@ -36,7 +38,8 @@ module _ {V : Type 0} (kind : RingKind) (reversed : Bool) (R : Semiring V) (N : 
   named_row [] = refl
   named_row (a ∷ x) = λ i. named_by kind known a (N.to a) refl i ∷ named_row x i
 
-  small_at : (kind : RingKind) → KindLaws kind R N reversed → (bound : ℕ) (a : V) (o : Option ℤ) → N.to a ≡ o → R.size a ≤ bound → magnitude o ≤ bound
+  small_at : (kind : RingKind) → KindLaws kind R N reversed → (bound : ℕ) (a : V) (o : Option ℤ) → N.to a ≡ o →
+      R.size a ≤ bound → magnitude o ≤ bound
   small_at kind k bound a None e s = omega arith
   small_at MaxKind k bound a (Some n) e s = omega (arith, k.0.size a n e)
   small_at MinKind k bound a (Some n) e s = omega (arith, k.0.size a n e)

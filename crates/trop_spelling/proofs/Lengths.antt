@@ -13,7 +13,8 @@ use Rattle.trop_spelling.specs.Elements.{IsNextEntry, IsRow}
 use Rattle.trop_spelling.specs.Inequalities.{with_term, with_terms, coefficients, inequality, IsInequality}
 
 module _ {V : Type 0} (kind : RingKind) (R : Semiring V) (N : Numbering V) (bound : ℕ) where
-  entries_length : (n : ℕ) (before : List V) (us : List Piece) (xs : List V) → Repeated (IsNextEntry kind R N bound) n before us xs → length xs ≡ length before + n
+  entries_length : (n : ℕ) (before : List V) (us : List Piece) (xs : List V) →
+      Repeated (IsNextEntry kind R N bound) n before us xs → length xs ≡ length before + n
   unfolding Repeated
   entries_length zero before us xs r = let e = ap length r.is in omega arith
   entries_length (suc n) before us xs r =
@@ -48,7 +49,9 @@ module _ {V : Type 0} (kind : RingKind) (R : Semiring V) (N : Numbering V) (boun
   inequality_in n false p q = record { left = length-coefficients n p; right = length-coefficients n q }
 
   -- an inequality has a coordinate for each name and coordinate 0
-  pub IsIn-inequality : (names : List (List ℕ)) (us : List Piece) (p : Inequality V) → IsInequality kind R N bound names us p → IsIn (length names + 1) p
+  pub IsIn-inequality : (names : List (List ℕ)) (us : List Piece) (p : Inequality V) →
+      IsInequality kind R N bound names us p → IsIn (length names + 1) p
   IsIn-inequality names us p e =
       let rest = e.second.second in
-      subst (IsIn (length names + 1)) (sym rest.second.second.second.is) (inequality_in (length names + 1) rest.value e.second.value rest.second.value)
+      subst (IsIn (length names + 1)) (sym rest.second.second.second.is)
+      (inequality_in (length names + 1) rest.value e.second.value rest.second.value)

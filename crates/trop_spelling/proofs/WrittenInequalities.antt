@@ -26,11 +26,15 @@ use Rattle.trop_spelling.proofs.WrittenSides.{zero_is, side_written}
 -- ---- the order word
 
 order_written : (kind : RingKind) → IsWritten Always (order_word kind) (IsOne Sign (order_word kind))
-order_written MaxKind = long_written 60 61 (record { stands = (refl, refl, refl); no_letter = refl; no_digit = refl; long = refl })
-order_written MinKind = long_written 62 61 (record { stands = (refl, refl, refl); no_letter = refl; no_digit = refl; long = refl })
-order_written BoolKind = long_written 61 62 (record { stands = (refl, refl, refl); no_letter = refl; no_digit = refl; long = refl })
+order_written MaxKind = long_written 60 61 (record
+    { stands = (refl, refl, refl); no_letter = refl; no_digit = refl; long = refl })
+order_written MinKind = long_written 62 61 (record
+    { stands = (refl, refl, refl); no_letter = refl; no_digit = refl; long = refl })
+order_written BoolKind = long_written 61 62 (record
+    { stands = (refl, refl, refl); no_letter = refl; no_digit = refl; long = refl })
 
-order_passes : (kind : RingKind) (line column : ℕ) → order_mark kind (Token (tok Sign (order_word kind) line column)) ≡ Ok false
+order_passes : (kind : RingKind) (line column : ℕ) →
+    order_mark kind (Token (tok Sign (order_word kind) line column)) ≡ Ok false
 order_passes MaxKind line column = refl
 order_passes MinKind line column = refl
 order_passes BoolKind line column = refl
@@ -38,7 +42,8 @@ order_passes BoolKind line column = refl
 -- ---- an inequality
 
 -- An inequality by its first token; the end of its line is still to come.
-pub record IsOpenInequality {V : Type 0} (kind : RingKind) (R : Semiring V) (N : Numbering V) (bound : ℕ) (names : List (List ℕ)) (p : Inequality V) (us : List Piece) : Type 0 where
+pub record IsOpenInequality {V : Type 0} (kind : RingKind) (R : Semiring V) (N : Numbering V) (bound : ℕ)
+    (names : List (List ℕ)) (p : Inequality V) (us : List Piece) : Type 0 where
   pub first : Tok
   pub others : List Piece
   pub start : Option (Start V)
@@ -58,12 +63,22 @@ module _ {V : Type 0} (kind : RingKind) (R : Semiring V) (N : Numbering V) (boun
     whole : us ≡ Token (tok Sign (order_word kind) line column) ∷ others
     side : IsSide kind R N bound names others terms
 
-  ordered : (terms : List (Term V)) (us vs : List Piece) → IsOne Sign (order_word kind) us → IsOpenSide kind R N bound names vs terms → IsOrdered terms (us ++ vs)
-  ordered terms us vs o h = record { line = o.line; column = o.column; others = vs; whole = ap (λ ps. ps ++ vs) o.whole; side = open_is_side kind R N bound names vs terms h }
+  ordered : (terms : List (Term V)) (us vs : List Piece) → IsOne Sign (order_word kind) us →
+      IsOpenSide kind R N bound names vs terms → IsOrdered terms (us ++ vs)
+  ordered terms us vs o h = record {
+    line = o.line;
+    column = o.column;
+    others = vs;
+    whole = ap (λ ps. ps ++ vs) o.whole;
+    side = open_is_side kind R N bound names vs terms h;
+  }
 
   -- the order word, a side and the end of the line
-  right_side : (left right : List (Term V)) (p : Inequality V) (line : ℕ) (vs : List Piece) → p ≡ inequality R (length names + 1) false left right → IsOrdered right vs
-      → Then (One (Passes (order_mark kind))) (λ turned. Then (IsSide kind R N bound names) (λ q. Then (One (Passes line_end)) (λ u. Empty (inequality R (length names + 1) turned left q)))) (vs ++ LineEnd line ∷ []) p
+  right_side : (left right : List (Term V)) (p : Inequality V) (line : ℕ) (vs : List Piece) →
+      p ≡ inequality R (length names + 1) false left right → IsOrdered right vs
+      → Then (One (Passes (order_mark kind))) (λ turned. Then (IsSide kind R N bound names)
+      (λ q. Then (One (Passes line_end)) (λ u. Empty (inequality R (length names + 1) turned left q))))
+      (vs ++ LineEnd line ∷ []) p
   right_side left right p line vs e h =
       let mark = Token (tok Sign (order_word kind) h.line h.column) in
       record {
@@ -78,11 +93,21 @@ module _ {V : Type 0} (kind : RingKind) (R : Semiring V) (N : Numbering V) (boun
           value = right;
           whole = refl;
           first = h.side;
-          second = record { front = LineEnd line ∷ []; back = []; value = tt; whole = refl; first = record { token = LineEnd line; whole = refl; is = refl }; second = record { none = refl; is = e } };
+          second = record {
+            front = LineEnd line ∷ [];
+            back = [];
+            value = tt;
+            whole = refl;
+            first =
+                record { token = LineEnd line; whole = refl; is = refl };
+            second = record { none = refl; is = e };
+          };
         };
       }
 
-  both_sides : (left right : List (Term V)) (p : Inequality V) → p ≡ inequality R (length names + 1) false left right → (us vs : List Piece) → IsOpenSide kind R N bound names us left → IsOrdered right vs → IsOpenInequality kind R N bound names p (us ++ vs)
+  both_sides : (left right : List (Term V)) (p : Inequality V) → p ≡ inequality R (length names + 1) false left right →
+      (us vs : List Piece) → IsOpenSide kind R N bound names us left → IsOrdered right vs →
+      IsOpenInequality kind R N bound names p (us ++ vs)
   both_sides left right p e us vs g h = record {
     first = g.first;
     others = g.others ++ vs;
@@ -99,7 +124,8 @@ module _ {V : Type 0} (kind : RingKind) (R : Semiring V) (N : Numbering V) (boun
     };
   }
 
-  pub open_is_inequality : (p : Inequality V) (us : List Piece) (line : ℕ) → IsOpenInequality kind R N bound names p us → IsInequality kind R N bound names (us ++ LineEnd line ∷ []) p
+  pub open_is_inequality : (p : Inequality V) (us : List Piece) (line : ℕ) →
+      IsOpenInequality kind R N bound names p us → IsInequality kind R N bound names (us ++ LineEnd line ∷ []) p
   open_is_inequality p us line h = record {
     front = Token h.first ∷ [];
     back = h.others ++ LineEnd line ∷ [];
@@ -112,16 +138,24 @@ module _ {V : Type 0} (kind : RingKind) (R : Semiring V) (N : Numbering V) (boun
   pub open_has_token : (p : Inequality V) → IsOpenInequality kind R N bound names p [] → ⊥
   open_has_token p h = let e = h.whole in cc
 
-module _ {V : Type 0} (kind : RingKind) (reversed : Bool) (R : Semiring V) (N : Numbering V) (laws : KindLaws kind R N reversed) (numbers_are : NumberLaws R N) (neutral : (a : V) → R.plus R.zero a ≡ a) (bound : ℕ) (names : List (List ℕ)) (small : bound < 2 ^ 64) (are : AreNames names) where
-  coefficients_are : (side : List V) → length side ≡ length names + 1 → side ≡ coefficients R (length names + 1) (written_terms R N side)
-  coefficients_are side wide = sym (subst (λ n. coefficients R n (written_terms R N side) ≡ side) wide (written_read_back R N neutral (zero_is R N numbers_are) side))
+module _ {V : Type 0} (kind : RingKind) (reversed : Bool) (R : Semiring V) (N : Numbering V)
+    (laws : KindLaws kind R N reversed) (numbers_are : NumberLaws R N) (neutral : (a : V) → R.plus R.zero a ≡ a)
+    (bound : ℕ) (names : List (List ℕ)) (small : bound < 2 ^ 64) (are : AreNames names) where
+  coefficients_are : (side : List V) → length side ≡ length names + 1 →
+      side ≡ coefficients R (length names + 1) (written_terms R N side)
+  coefficients_are side wide = sym (subst (λ n. coefficients R n (written_terms R N side) ≡ side) wide
+      (written_read_back R N neutral (zero_is R N numbers_are) side))
 
-  pub inequality_written : (p : Inequality V) → IsIn (length names + 1) p → inequality_size R p ≤ bound → IsWritten StopsWord (printed_inequality kind N names p) (IsOpenInequality kind R N bound names p)
+  pub inequality_written : (p : Inequality V) → IsIn (length names + 1) p → inequality_size R p ≤ bound →
+      IsWritten StopsWord (printed_inequality kind N names p) (IsOpenInequality kind R N bound names p)
   inequality_written p wide s =
       let left = written_terms R N p.left in
       let right = written_terms R N p.right in
       let same : p ≡ inequality R (length names + 1) false left right =
-      ap (λ side. sides side p.right) (coefficients_are p.left wide.left) ∙ ap (λ side. sides (coefficients R (length names + 1) left) side) (coefficients_are p.right wide.right) in
+      ap (λ side. sides side p.right) (coefficients_are p.left wide.left)
+      ∙ ap (λ side. sides (coefficients R (length names + 1) left) side) (coefficients_are p.right wide.right) in
       let side = side_written kind reversed R N laws numbers_are bound names small are in
-      let behind = written_join (ordered kind R N bound names right) (λ rest t. tt) (order_written kind) (blank_written (side p.right wide.right (omega arith))) in
-      written_join (both_sides kind R N bound names left right p same) (λ rest t. refl) (side p.left wide.left (omega arith)) (blank_written behind)
+      let behind = written_join (ordered kind R N bound names right) (λ rest t. tt) (order_written kind)
+      (blank_written (side p.right wide.right (omega arith))) in
+      written_join (both_sides kind R N bound names left right p same) (λ rest t. refl)
+      (side p.left wide.left (omega arith)) (blank_written behind)

@@ -46,11 +46,13 @@ IsElement MaxKind R N bound = Then (One (Passes (max_start N bound))) (Behind (m
 IsElement MinKind R N bound = Then (One (Passes (min_start R N bound))) (Behind (min_behind N bound))
 IsElement BoolKind R N bound = One (Passes (truth R))
 
-unfoldable pub behind_at : {V : Type 0} → (Piece → Result V FaultKind) → Option V → List Piece → Reading Piece FaultKind V
+unfoldable pub behind_at : {V : Type 0} → (Piece → Result V FaultKind) → Option V → List Piece →
+    Reading Piece FaultKind V
 behind_at behind (Some x) = gives x
 behind_at behind None = token_at Syntax behind
 
-unfoldable pub element_at : {V : Type 0} → RingKind → Semiring V → Numbering V → ℕ → List Piece → Reading Piece FaultKind V
+unfoldable pub element_at : {V : Type 0} → RingKind → Semiring V → Numbering V → ℕ → List Piece →
+    Reading Piece FaultKind V
 element_at MaxKind R N bound = token_at Syntax (max_start N bound) >>= behind_at (max_behind R N bound)
 element_at MinKind R N bound = token_at Syntax (min_start R N bound) >>= behind_at (min_behind N bound)
 element_at BoolKind R N bound = token_at Syntax (truth R)
@@ -59,18 +61,28 @@ element_at BoolKind R N bound = token_at Syntax (truth R)
 
 -- a comma and an element, behind those before
 abbrev pub IsNextEntry : {V : Type 0} → RingKind → Semiring V → Numbering V → ℕ → List V → List Piece → List V → Type 0
-IsNextEntry kind R N bound xs = Then (One (Passes (said (codes ",")))) (λ u. Then (IsElement kind R N bound) (λ x. Empty (xs ++ x ∷ [])))
+IsNextEntry kind R N bound xs = Then (One (Passes (said (codes ","))))
+    (λ u. Then (IsElement kind R N bound) (λ x. Empty (xs ++ x ∷ [])))
 
 -- `[`, so many elements separated by `,`, and `]`
 unfoldable pub IsRow : {V : Type 0} → RingKind → Semiring V → Numbering V → ℕ → ℕ → List Piece → List V → Type 0
-IsRow kind R N bound zero = Then (One (Passes (said (codes "[")))) (λ u. Then (One (Passes (said (codes "]")))) (λ v. Empty []))
+IsRow kind R N bound zero = Then (One (Passes (said (codes "["))))
+    (λ u. Then (One (Passes (said (codes "]")))) (λ v. Empty []))
 IsRow kind R N bound (suc n) =
-    Then (One (Passes (said (codes "[")))) (λ u. Then (IsElement kind R N bound) (λ x. Then (Repeated (IsNextEntry kind R N bound) n (x ∷ [])) (λ xs. Then (One (Passes (said (codes "]")))) (λ v. Empty xs))))
+    Then (One (Passes (said (codes "[")))) (λ u. Then (IsElement kind R N bound)
+    (λ x. Then (Repeated (IsNextEntry kind R N bound) n (x ∷ []))
+    (λ xs. Then (One (Passes (said (codes "]")))) (λ v. Empty xs))))
 
-unfoldable pub next_entry_at : {V : Type 0} → RingKind → Semiring V → Numbering V → ℕ → List V → List Piece → Reading Piece FaultKind (List V)
-next_entry_at kind R N bound xs = token_at Syntax (said (codes ",")) >>= λ u. element_at kind R N bound >>= λ x. gives (xs ++ x ∷ [])
+unfoldable pub next_entry_at : {V : Type 0} → RingKind → Semiring V → Numbering V → ℕ → List V → List Piece →
+    Reading Piece FaultKind (List V)
+next_entry_at kind R N bound xs = token_at Syntax (said (codes ",")) >>= λ u. element_at kind R N bound >>= λ x.
+    gives (xs ++ x ∷ [])
 
-unfoldable pub row_at : {V : Type 0} → RingKind → Semiring V → Numbering V → ℕ → ℕ → List Piece → Reading Piece FaultKind (List V)
-row_at kind R N bound zero = token_at Syntax (said (codes "[")) >>= λ u. token_at Syntax (said (codes "]")) >>= λ v. gives []
+unfoldable pub row_at : {V : Type 0} → RingKind → Semiring V → Numbering V → ℕ → ℕ → List Piece →
+    Reading Piece FaultKind (List V)
+row_at kind R N bound zero = token_at Syntax (said (codes "[")) >>= λ u. token_at Syntax (said (codes "]")) >>= λ v.
+    gives []
 row_at kind R N bound (suc n) =
-    token_at Syntax (said (codes "[")) >>= λ u. element_at kind R N bound >>= λ x. repeat_at (next_entry_at kind R N bound) n (x ∷ []) >>= λ xs. token_at Syntax (said (codes "]")) >>= λ v. gives xs
+    token_at Syntax (said (codes "[")) >>= λ u. element_at kind R N bound >>= λ x.
+    repeat_at (next_entry_at kind R N bound) n (x ∷ []) >>= λ xs. token_at Syntax (said (codes "]")) >>= λ v.
+    gives xs

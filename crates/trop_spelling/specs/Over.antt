@@ -40,7 +40,9 @@ bool_embedding F x = OverBool x
 -- What is true of each of the three, with its numbering, is true here.
 abbrev pub IsOneOfThree : (V : Type 0) → RingKind → Semiring V → Numbering V → Embedding V → Type 1
 IsOneOfThree V kind R N over =
-    (P : Saying) → P (Option ℤ) MaxKind max_ring max_numbering max_embedding → P (Option ℤ) MinKind min_ring max_numbering min_embedding → P Bool BoolKind truth_ring truth_numbering bool_embedding → P V kind R N over
+    (P : Saying) → P (Option ℤ) MaxKind max_ring max_numbering max_embedding →
+    P (Option ℤ) MinKind min_ring max_numbering min_embedding →
+    P Bool BoolKind truth_ring truth_numbering bool_embedding → P V kind R N over
 
 -- one of the three
 pub record Three (V : Type 0) : Type 1 where
@@ -51,13 +53,34 @@ pub record Three (V : Type 0) : Type 1 where
   pub each : IsOneOfThree V kind ring numbering over
 
 abbrev pub max_three : Three (Option ℤ)
-max_three = record { kind = MaxKind; ring = max_ring; numbering = max_numbering; over = max_embedding; each = λ P in_max in_min in_bool. in_max }
+max_three = record {
+  kind = MaxKind;
+  ring = max_ring;
+  numbering = max_numbering;
+  over = max_embedding;
+  each =
+      λ P in_max in_min in_bool. in_max;
+}
 
 abbrev pub min_three : Three (Option ℤ)
-min_three = record { kind = MinKind; ring = min_ring; numbering = max_numbering; over = min_embedding; each = λ P in_max in_min in_bool. in_min }
+min_three = record {
+  kind = MinKind;
+  ring = min_ring;
+  numbering = max_numbering;
+  over = min_embedding;
+  each =
+      λ P in_max in_min in_bool. in_min;
+}
 
 abbrev pub bool_three : Three Bool
-bool_three = record { kind = BoolKind; ring = truth_ring; numbering = truth_numbering; over = bool_embedding; each = λ P in_max in_min in_bool. in_bool }
+bool_three = record {
+  kind = BoolKind;
+  ring = truth_ring;
+  numbering = truth_numbering;
+  over = bool_embedding;
+  each =
+      λ P in_max in_min in_bool. in_bool;
+}
 
 -- this kind, these operations and this numbering are those of one of the three
 pub record IsThree {V : Type 0} (three : Three V) (kind : RingKind) (R : Semiring V) (N : Numbering V) : Type 0 where
@@ -68,7 +91,8 @@ pub record IsThree {V : Type 0} (three : Three V) (kind : RingKind) (R : Semirin
 -- ---- what is said once and holds over each
 
 -- what P says of the value, in the semiring over which it stands
-abbrev pub Holds : {F : Type 0 → Type 0} → ((V : Type 0) → RingKind → Semiring V → Numbering V → F V → Type 0) → Over F → Type 0
+abbrev pub Holds : {F : Type 0 → Type 0} → ((V : Type 0) → RingKind → Semiring V → Numbering V → F V → Type 0) →
+    Over F → Type 0
 Holds P (OverMax x) = P (Option ℤ) MaxKind max_ring max_numbering x
 Holds P (OverMin x) = P (Option ℤ) MinKind min_ring max_numbering x
 Holds P (OverBool x) = P Bool BoolKind truth_ring truth_numbering x
@@ -87,7 +111,8 @@ InKind G BoolKind = Then (G Bool BoolKind truth_ring truth_numbering) (λ x. Emp
 abbrev pub Readings : (Type 0 → Type 0) → Type 1
 Readings F = (V : Type 0) → RingKind → Semiring V → Numbering V → List Piece → Reading Piece FaultKind (F V)
 
-unfoldable pub in_kind_at : {F : Type 0 → Type 0} → Readings F → RingKind → List Piece → Reading Piece FaultKind (Over F)
+unfoldable pub in_kind_at : {F : Type 0 → Type 0} → Readings F → RingKind → List Piece →
+    Reading Piece FaultKind (Over F)
 in_kind_at r MaxKind = r (Option ℤ) MaxKind max_ring max_numbering >>= λ x. gives (OverMax x)
 in_kind_at r MinKind = r (Option ℤ) MinKind min_ring max_numbering >>= λ x. gives (OverMin x)
 in_kind_at r BoolKind = r Bool BoolKind truth_ring truth_numbering >>= λ x. gives (OverBool x)

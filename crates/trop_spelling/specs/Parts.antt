@@ -18,5 +18,6 @@ IsRowLine kind R N bound len = Then (IsRow kind R N bound len) (λ row. Then (On
 
 -- ---- reading
 
-unfoldable pub row_line_at : {V : Type 0} → RingKind → Semiring V → Numbering V → ℕ → ℕ → List Piece → Reading Piece FaultKind (List V)
+unfoldable pub row_line_at : {V : Type 0} → RingKind → Semiring V → Numbering V → ℕ → ℕ → List Piece →
+    Reading Piece FaultKind (List V)
 row_line_at kind R N bound len = row_at kind R N bound len >>= λ row. token_at Syntax line_end >>= λ u. gives row

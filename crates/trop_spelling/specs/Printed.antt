@@ -52,4 +52,5 @@ printed_side kind names side = sum_text kind (terms_from kind names 0 side)
 -- left, the order word and right
 abbrev pub printed_inequality : {V : Type 0} → RingKind → Numbering V → List (List ℕ) → Inequality V → List ℕ
 printed_inequality kind N names p =
-    printed_side kind names (numbers N p.left) ++ (codes " " ++ (order_word kind ++ (codes " " ++ printed_side kind names (numbers N p.right))))
+    printed_side kind names (numbers N p.left) ++ (codes " "
+    ++ (order_word kind ++ (codes " " ++ printed_side kind names (numbers N p.right))))

@@ -77,7 +77,8 @@ pub(crate) fn max_rest<'a, S: Scalar>(
     bound: u64,
 ) -> Result<(S, Pieces<'a>), ReadErr<'a>>
     requires { bound ≤ 2 ^ 48 }
-    ensures gives { Gives (λ x. (x.0, pieces_left x.1)) result (spec.behind_at (spec.max_behind S.ring S.numbering bound) start (pieces_left at.entry)) }
+    ensures gives { Gives (λ x. (x.0, pieces_left x.1)) result
+        (spec.behind_at (spec.max_behind S.ring S.numbering bound) start (pieces_left at.entry)) }
     ensures source { IfOk result (λ x. pieces_source x.1 ≡ pieces_source at.entry) }
 {
     match (start, at.next()) {
@@ -94,7 +95,8 @@ pub(crate) fn min_rest<'a, S: Scalar>(
     bound: u64,
 ) -> Result<(S, Pieces<'a>), ReadErr<'a>>
     requires { bound ≤ 2 ^ 48 }
-    ensures gives { Gives (λ x. (x.0, pieces_left x.1)) result (spec.behind_at (spec.min_behind S.numbering bound) start (pieces_left at.entry)) }
+    ensures gives { Gives (λ x. (x.0, pieces_left x.1)) result
+        (spec.behind_at (spec.min_behind S.numbering bound) start (pieces_left at.entry)) }
     ensures source { IfOk result (λ x. pieces_source x.1 ≡ pieces_source at.entry) }
 {
     match (start, at.next()) {
@@ -111,7 +113,8 @@ pub(crate) fn element<'a, S: Spelling>(
     bound: u64,
 ) -> Result<(S, Pieces<'a>), ReadErr<'a>>
     requires { bound ≤ 2 ^ 48 }
-    ensures gives { Gives (λ x. (x.0, pieces_left x.1)) result (spec.element_at S.KIND S.ring S.numbering bound (pieces_left at.entry)) }
+    ensures gives { Gives (λ x. (x.0, pieces_left x.1)) result
+        (spec.element_at S.KIND S.ring S.numbering bound (pieces_left at.entry)) }
     ensures source { IfOk result (λ x. pieces_source x.1 ≡ pieces_source at.entry) }
 {
     let Some((piece, rest)) = at.next() else {
@@ -138,7 +141,8 @@ fn next_entry<'a, S: Spelling>(
     bound: u64,
 ) -> Result<Pieces<'a>, ReadErr<'a>>
     requires { bound ≤ 2 ^ 48 }
-    ensures gives { Gives (λ rest. (row.new.items, pieces_left rest)) result (spec.next_entry_at S.KIND S.ring S.numbering bound row.old.items (pieces_left at.entry)) }
+    ensures gives { Gives (λ rest. (row.new.items, pieces_left rest)) result
+        (spec.next_entry_at S.KIND S.ring S.numbering bound row.old.items (pieces_left at.entry)) }
     ensures source { IfOk result (λ rest. pieces_source rest ≡ pieces_source at.entry) }
     ensures length { IfOk result (λ rest. vec_len row.new ≡ vec_len row.old + 1) }
 {
@@ -156,7 +160,8 @@ fn more_entries<'a, S: Spelling>(
     bound: u64,
 ) -> Result<Pieces<'a>, ReadErr<'a>>
     requires { bound ≤ 2 ^ 48 }
-    ensures gives { Gives (λ rest. (row.new.items, pieces_left rest)) result (repeat_at (spec.next_entry_at S.KIND S.ring S.numbering bound) count row.old.items (pieces_left at.entry)) }
+    ensures gives { Gives (λ rest. (row.new.items, pieces_left rest)) result
+        (repeat_at (spec.next_entry_at S.KIND S.ring S.numbering bound) count row.old.items (pieces_left at.entry)) }
     ensures source { IfOk result (λ rest. pieces_source rest ≡ pieces_source at.entry) }
     ensures length { IfOk result (λ rest. vec_len row.new ≡ vec_len row.old + count) }
 {
@@ -176,7 +181,8 @@ pub fn row_entries<'a, S: Spelling>(
     bound: u64,
 ) -> Result<(Vec<S>, Pieces<'a>), ReadErr<'a>>
     requires { bound ≤ 2 ^ 48 }
-    ensures gives { Gives (λ x. (x.0.items, pieces_left x.1)) result (spec.row_at S.KIND S.ring S.numbering bound len (pieces_left at.entry)) }
+    ensures gives { Gives (λ x. (x.0.items, pieces_left x.1)) result
+        (spec.row_at S.KIND S.ring S.numbering bound len (pieces_left at.entry)) }
     ensures source { IfOk result (λ x. pieces_source x.1 ≡ pieces_source at.entry) }
     ensures length { IfOk result (λ x. vec_len x.0 ≡ len) }
 {

@@ -76,7 +76,8 @@ fn order_mark<S: Spelling>(piece: Piece<'_>) -> Result<bool, FaultKind>
 // The order word at the place where a reader stands.
 #[tactic(auto, unfolding(trop_grammar::specs::Reading::token_at))]
 fn order<'a, S: Spelling>(at: Pieces<'a>) -> Result<(bool, Pieces<'a>), ReadErr<'a>>
-    ensures gives { Gives (λ x. (x.0, pieces_left x.1)) result (token_at Syntax (spec.order_mark S.KIND) (pieces_left at.entry)) }
+    ensures gives { Gives (λ x. (x.0, pieces_left x.1)) result
+        (token_at Syntax (spec.order_mark S.KIND) (pieces_left at.entry)) }
     ensures source { IfOk result (λ x. pieces_source x.1 ≡ pieces_source at.entry) }
 {
     match at.next() {
@@ -96,7 +97,8 @@ pub fn inequality_rest<'a, S: Spelling>(
 ) -> Result<(Ineq<S>, Pieces<'a>), ReadErr<'a>>
     requires names { length names.now ≤ 63 }
     requires bound { bound ≤ 2 ^ 48 }
-    ensures gives { Gives (λ x. (x.0, pieces_left x.1)) result (spec.inequality_rest_at S.KIND S.ring S.numbering bound names.now start (pieces_left at.entry)) }
+    ensures gives { Gives (λ x. (x.0, pieces_left x.1)) result
+        (spec.inequality_rest_at S.KIND S.ring S.numbering bound names.now start (pieces_left at.entry)) }
     ensures source { IfOk result (λ x. pieces_source x.1 ≡ pieces_source at.entry) }
     ensures wide { IfOk result (λ x. IsIn (length names.now + 1) x.0) }
     ensures resumes { IfOk result (λ x. pieces_left x.1 ≡ pieces_from (tokens_left x.1) 0) }

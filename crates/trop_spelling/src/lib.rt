@@ -1,6 +1,7 @@
 //! How the elements of the three semirings are written: elements, rows, terms, sides and inequalities, both ways.
 //!
-//! [`Spelling`] gives the words of a semiring; [`RingKind`] says which of the three it is. [`read_row`] and [`read_ineq`]
+//! [`Spelling`] gives the words of a semiring; [`RingKind`] says which of the three it is. [`read_row`] and
+//! [`read_ineq`]
 //! read one row or inequality that ends its line, [`row_text`] and [`ineq_text`] print one, and what is printed is read
 //! back. Readers of files go on with [`row_entries`], [`side_start`] and [`inequality_rest`].
 //!

@@ -29,7 +29,8 @@ fn row_line<'a, S: Spelling>(
 ) -> Result<(Row<S>, Pieces<'a>), ReadErr<'a>>
     requires len { len ≤ 64 }
     requires bound { bound ≤ 2 ^ 48 }
-    ensures gives { Gives (λ x. (x.0, pieces_left x.1)) result (row_line_at S.KIND S.ring S.numbering bound len (pieces_left at.entry)) }
+    ensures gives { Gives (λ x. (x.0, pieces_left x.1)) result
+        (row_line_at S.KIND S.ring S.numbering bound len (pieces_left at.entry)) }
     ensures wide { IfOk result (λ x. length x.0 ≡ len) }
     ensures source { IfOk result (λ x. pieces_source x.1 ≡ pieces_source at.entry) }
     ensures resumes { IfOk result (λ x. pieces_left x.1 ≡ pieces_from (tokens_left x.1) 0) }
@@ -50,7 +51,8 @@ fn inequality_line<'a, S: Spelling>(
 ) -> Result<(Ineq<S>, Pieces<'a>), ReadErr<'a>>
     requires names { length names.now ≤ 63 }
     requires bound { bound ≤ 2 ^ 48 }
-    ensures gives { Gives (λ x. (x.0, pieces_left x.1)) result (inequality_at S.KIND S.ring S.numbering bound names.now (pieces_left at.entry)) }
+    ensures gives { Gives (λ x. (x.0, pieces_left x.1)) result
+        (inequality_at S.KIND S.ring S.numbering bound names.now (pieces_left at.entry)) }
     ensures wide { IfOk result (λ x. IsIn (length names.now + 1) x.0) }
     ensures source { IfOk result (λ x. pieces_source x.1 ≡ pieces_source at.entry) }
     ensures resumes { IfOk result (λ x. pieces_left x.1 ≡ pieces_from (tokens_left x.1) 0) }
@@ -62,10 +64,12 @@ fn inequality_line<'a, S: Spelling>(
     inequality_rest(alloc, names, start, rest, bound)
 }
 
-/// Reads a row of `len` elements, whose numbers have size at most `bound`, from the next tokens. They are all that are left
+/// Reads a row of `len` elements, whose numbers have size at most `bound`, from the next tokens. They are all that are
+/// left
 /// in their line, which is the line of this number; no token of an earlier line is left.
 ///
-/// Behind the row the lexer goes on with the next line. A refusal is the first fault of these tokens and the end of their
+/// Behind the row the lexer goes on with the next line. A refusal is the first fault of these tokens and the end of
+/// their
 /// line, or `NoMemory`.
 pub fn read_row<'a, S: Spelling>(
     alloc: Global,
@@ -77,11 +81,14 @@ pub fn read_row<'a, S: Spelling>(
     requires len { len ≤ 64 }
     requires bound { bound ≤ 2 ^ 48 }
     // What is read is spelled so, and the tokens behind the line are left.
-    ensures found { IfOk result (λ row. IsReadInLine (IsRowLine S.KIND S.ring S.numbering bound len) line (left lexer.old) row (left lexer.new)) }
+    ensures found { IfOk result (λ row. IsReadInLine (IsRowLine S.KIND S.ring S.numbering bound len) line
+        (left lexer.old) row (left lexer.new)) }
     // What is spelled so is read, unless memory runs out.
-    ensures only { (row : List S) → StartsWith (IsRowLine S.KIND S.ring S.numbering bound len) (pieces_from (left lexer.old) line) row → AnswersWith (λ (r : List S). r) result row }
+    ensures only { (row : List S) → StartsWith (IsRowLine S.KIND S.ring S.numbering bound len)
+        (pieces_from (left lexer.old) line) row → AnswersWith (λ (r : List S). r) result row }
     // A fault is the first one.
-    ensures fault { IfErr result (IsRefusalIn (StartsWith (IsRowLine S.KIND S.ring S.numbering bound len)) (row_line_at S.KIND S.ring S.numbering bound len) (source lexer.old) (pieces_from (left lexer.old) line)) }
+    ensures fault { IfErr result (IsRefusalIn (StartsWith (IsRowLine S.KIND S.ring S.numbering bound len))
+        (row_line_at S.KIND S.ring S.numbering bound len) (source lexer.old) (pieces_from (left lexer.old) line)) }
     ensures stays { OnErr result (lexer.new ≡ lexer.old) }
     ensures source { source lexer.new ≡ source lexer.old }
     ensures width { IfOk result (λ row. length row ≡ len) }
@@ -96,10 +103,12 @@ pub fn read_row<'a, S: Spelling>(
     }
 }
 
-/// Reads an inequality in the variables with these names, whose numbers have size at most `bound`, from the next tokens.
+/// Reads an inequality in the variables with these names, whose numbers have size at most `bound`, from the next
+/// tokens.
 /// They are all that are left in their line, which is the line of this number; no token of an earlier line is left.
 ///
-/// Behind the inequality the lexer goes on with the next line. A refusal is the first fault of these tokens and the end of
+/// Behind the inequality the lexer goes on with the next line. A refusal is the first fault of these tokens and the end
+/// of
 /// their line, or `NoMemory`.
 pub fn read_ineq<'a, S: Spelling>(
     alloc: Global,
@@ -111,11 +120,15 @@ pub fn read_ineq<'a, S: Spelling>(
     requires names { length names.now ≤ 63 }
     requires bound { bound ≤ 2 ^ 48 }
     // What is read is spelled so, and the tokens behind the line are left.
-    ensures found { IfOk result (λ ineq. IsReadInLine (IsInequality S.KIND S.ring S.numbering bound names.now) line (left lexer.old) ineq (left lexer.new)) }
+    ensures found { IfOk result (λ ineq. IsReadInLine (IsInequality S.KIND S.ring S.numbering bound names.now) line
+        (left lexer.old) ineq (left lexer.new)) }
     // What is spelled so is read, unless memory runs out.
-    ensures only { (ineq : Inequality S) → StartsWith (IsInequality S.KIND S.ring S.numbering bound names.now) (pieces_from (left lexer.old) line) ineq → AnswersWith (λ (p : Inequality S). p) result ineq }
+    ensures only { (ineq : Inequality S) → StartsWith (IsInequality S.KIND S.ring S.numbering bound names.now)
+        (pieces_from (left lexer.old) line) ineq → AnswersWith (λ (p : Inequality S). p) result ineq }
     // A fault is the first one.
-    ensures fault { IfErr result (IsRefusalIn (StartsWith (IsInequality S.KIND S.ring S.numbering bound names.now)) (inequality_at S.KIND S.ring S.numbering bound names.now) (source lexer.old) (pieces_from (left lexer.old) line)) }
+    ensures fault { IfErr result (IsRefusalIn (StartsWith (IsInequality S.KIND S.ring S.numbering bound names.now))
+        (inequality_at S.KIND S.ring S.numbering bound names.now) (source lexer.old)
+        (pieces_from (left lexer.old) line)) }
     ensures stays { OnErr result (lexer.new ≡ lexer.old) }
     ensures source { source lexer.new ≡ source lexer.old }
     ensures width { IfOk result (IsIn (length names.now + 1)) }

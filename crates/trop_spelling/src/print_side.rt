@@ -21,7 +21,8 @@ pub fn ineq_text<S: Spelling>(
 ) -> Result<Vec<u8>, NoMemory>
     requires { length ineq.now.left ≡ length names.now + 1 }
     ensures text { IfOk result (λ text. text.items ≡ printed_inequality S.KIND S.numbering names.now ineq.now) }
-    ensures read_back { (bound : ℕ) → bound ≤ 2 ^ 48 → inequality_size S.ring ineq.now ≤ bound → IfOk result (λ text. IsOnlyLine (IsInequality S.KIND S.ring S.numbering bound names.now) text.items ineq.now) }
+    ensures read_back { (bound : ℕ) → bound ≤ 2 ^ 48 → inequality_size S.ring ineq.now ≤ bound →
+        IfOk result (λ text. IsOnlyLine (IsInequality S.KIND S.ring S.numbering bound names.now) text.items ineq.now) }
 {
     prove!(names.len() + 1 == ineq.right().len());
     let mut text = Vec::new(alloc);
@@ -48,7 +49,8 @@ pub fn push_inequality<S: Spelling>(
 fn push_side<S: Spelling>(text: &mut Vec<u8>, names: &Names, side: &[S]) -> Result<(), NoMemory>
     requires names { length side.now ≡ length names.now + 1 }
     requires width { length side.now ≤ 64 }
-    ensures { OnOk result (text.new.items ≡ text.old.items ++ printed_side S.KIND names.now (numbers S.numbering side.now)) }
+    ensures { OnOk result (text.new.items ≡ text.old.items ++ printed_side S.KIND names.now
+        (numbers S.numbering side.now)) }
 {
     let count = count_terms(side);
     if count == 0 {
@@ -75,7 +77,8 @@ fn count_terms<S: Spelling>(side: &[S]) -> usize
 fn push_terms<S: Spelling>(text: &mut Vec<u8>, names: &Names, side: &[S]) -> Result<(), NoMemory>
     requires names { length side.now ≡ length names.now + 1 }
     requires width { length side.now ≤ 64 }
-    ensures { OnOk result (text.new.items ≡ text.old.items ++ comma_list (terms_from S.KIND names.now 0 (numbers S.numbering side.now))) }
+    ensures { OnOk result (text.new.items ≡ text.old.items
+        ++ comma_list (terms_from S.KIND names.now 0 (numbers S.numbering side.now))) }
 {
     let mut started = false;
     for i in 0..side.len() {
@@ -104,7 +107,8 @@ fn push_comma(text: &mut Vec<u8>, started: bool) -> Result<(), NoMemory>
 fn push_term<S: Spelling>(text: &mut Vec<u8>, names: &Names, x: S, i: usize) -> Result<(), NoMemory>
     requires coordinate { i < length names.now + 1 }
     requires width { i < 64 }
-    ensures { (c : _) → S.numbering.to x ≡ Some c → OnOk result (text.new.items ≡ text.old.items ++ term_text S.KIND names.now i c) }
+    ensures { (c : _) → S.numbering.to x ≡ Some c →
+        OnOk result (text.new.items ≡ text.old.items ++ term_text S.KIND names.now i c) }
 {
     if i == 0 {
         return x.push_element(text);

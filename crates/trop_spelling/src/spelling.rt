@@ -63,7 +63,8 @@ pub trait Spelling: Scalar {
         Ok(text)
     }
 
-    /// `max` and `min` have whole numbers as their finite elements, and the order is reversed for `min`; `bool` has just two
+    /// `max` and `min` have whole numbers as their finite elements, and the order is reversed for `min`; `bool` has
+    /// just two
     /// elements.
     ghost kind_laws: { KindLaws KIND Self.ring Self.numbering Self.REVERSED };
 

@@ -121,7 +121,8 @@ fn shifted<'a, S: Scalar>(
     bound: u64,
 ) -> Result<(Term<S>, Pieces<'a>), ReadErr<'a>>
     requires { bound ≤ 2 ^ 48 }
-    ensures gives { Gives (λ x. (x.0, pieces_left x.1)) result (spec.shifted_at S.numbering bound coordinate up (pieces_left at.entry)) }
+    ensures gives { Gives (λ x. (x.0, pieces_left x.1)) result
+        (spec.shifted_at S.numbering bound coordinate up (pieces_left at.entry)) }
     ensures source { IfOk result (λ x. pieces_source x.1 ≡ pieces_source at.entry) }
 {
     let Some((piece, rest)) = at.next() else {
@@ -143,7 +144,8 @@ fn variable_rest<'a, S: Scalar>(
     bound: u64,
 ) -> Result<(Term<S>, Pieces<'a>), ReadErr<'a>>
     requires { bound ≤ 2 ^ 48 }
-    ensures gives { Gives (λ x. (x.0, pieces_left x.1)) result (spec.shifts_at S.ring S.numbering bound coordinate (pieces_left at.entry)) }
+    ensures gives { Gives (λ x. (x.0, pieces_left x.1)) result
+        (spec.shifts_at S.ring S.numbering bound coordinate (pieces_left at.entry)) }
     ensures source { IfOk result (λ x. pieces_source x.1 ≡ pieces_source at.entry) }
 {
     if let Some((piece, rest)) = at.next() {
@@ -166,7 +168,9 @@ fn max_term_rest<'a, S: Scalar>(
     bound: u64,
 ) -> Result<(Term<S>, Pieces<'a>), ReadErr<'a>>
     requires { bound ≤ 2 ^ 48 }
-    ensures gives { Gives (λ x. (x.0, pieces_left x.1)) result (spec.numeric_rest_at S.ring S.numbering bound (elements.max_behind S.ring S.numbering bound) start (pieces_left at.entry)) }
+    ensures gives { Gives (λ x. (x.0, pieces_left x.1)) result
+        (spec.numeric_rest_at S.ring S.numbering bound (elements.max_behind S.ring S.numbering bound) start
+        (pieces_left at.entry)) }
     ensures source { IfOk result (λ x. pieces_source x.1 ≡ pieces_source at.entry) }
 {
     let (coefficient, rest) = match start {
@@ -189,7 +193,9 @@ fn min_term_rest<'a, S: Scalar>(
     bound: u64,
 ) -> Result<(Term<S>, Pieces<'a>), ReadErr<'a>>
     requires { bound ≤ 2 ^ 48 }
-    ensures gives { Gives (λ x. (x.0, pieces_left x.1)) result (spec.numeric_rest_at S.ring S.numbering bound (elements.min_behind S.numbering bound) start (pieces_left at.entry)) }
+    ensures gives { Gives (λ x. (x.0, pieces_left x.1)) result
+        (spec.numeric_rest_at S.ring S.numbering bound (elements.min_behind S.numbering bound) start
+        (pieces_left at.entry)) }
     ensures source { IfOk result (λ x. pieces_source x.1 ≡ pieces_source at.entry) }
 {
     let (coefficient, rest) = match start {
@@ -232,7 +238,8 @@ fn term_rest<'a, S: Spelling>(
     bound: u64,
 ) -> Result<(Term<S>, Pieces<'a>), ReadErr<'a>>
     requires { bound ≤ 2 ^ 48 }
-    ensures gives { Gives (λ x. (x.0, pieces_left x.1)) result (spec.term_rest_at S.KIND S.ring S.numbering bound start (pieces_left at.entry)) }
+    ensures gives { Gives (λ x. (x.0, pieces_left x.1)) result
+        (spec.term_rest_at S.KIND S.ring S.numbering bound start (pieces_left at.entry)) }
     ensures source { IfOk result (λ x. pieces_source x.1 ≡ pieces_source at.entry) }
 {
     match S::KIND {
@@ -251,7 +258,8 @@ fn read_term<'a, S: Spelling>(
 ) -> Result<(Term<S>, Pieces<'a>), ReadErr<'a>>
     requires names { length names.now ≤ 63 }
     requires bound { bound ≤ 2 ^ 48 }
-    ensures gives { Gives (λ x. (x.0, pieces_left x.1)) result (spec.term_at S.KIND S.ring S.numbering bound names.now (pieces_left at.entry)) }
+    ensures gives { Gives (λ x. (x.0, pieces_left x.1)) result
+        (spec.term_at S.KIND S.ring S.numbering bound names.now (pieces_left at.entry)) }
     ensures source { IfOk result (λ x. pieces_source x.1 ≡ pieces_source at.entry) }
 {
     let Some((piece, rest)) = at.next() else {
@@ -284,7 +292,9 @@ fn next_term<'a, S: Spelling>(
 ) -> Result<(bool, Pieces<'a>), ReadErr<'a>>
     requires names { length names.now ≤ 63 }
     requires bound { bound ≤ 2 ^ 48 }
-    ensures gives { Gives (λ x. (next_of x.0 terms.new.items, pieces_left x.1)) result (separated_step Syntax (spec.term_at S.KIND S.ring S.numbering bound names.now) spec.between_terms terms.old.items (pieces_left at.entry)) }
+    ensures gives { Gives (λ x. (next_of x.0 terms.new.items, pieces_left x.1)) result
+        (separated_step Syntax (spec.term_at S.KIND S.ring S.numbering bound names.now) spec.between_terms
+        terms.old.items (pieces_left at.entry)) }
     ensures source { IfOk result (λ x. pieces_source x.1 ≡ pieces_source at.entry) }
 {
     let (term, at) = read_term(names, at, bound)?;
@@ -305,7 +315,8 @@ fn terms<'a, S: Spelling>(
 ) -> Result<(Vec<Term<S>>, Pieces<'a>), ReadErr<'a>>
     requires names { length names.now ≤ 63 }
     requires bound { bound ≤ 2 ^ 48 }
-    ensures gives { Gives (λ x. (x.0.items, pieces_left x.1)) result (spec.terms_at S.KIND S.ring S.numbering bound names.now (pieces_left at.entry)) }
+    ensures gives { Gives (λ x. (x.0.items, pieces_left x.1)) result
+        (spec.terms_at S.KIND S.ring S.numbering bound names.now (pieces_left at.entry)) }
     ensures source { IfOk result (λ x. pieces_source x.1 ≡ pieces_source at.entry) }
 {
     let mut terms = Vec::new(alloc);
@@ -347,7 +358,8 @@ pub(crate) fn side_rest<'a, S: Spelling>(
 ) -> Result<(Vec<Term<S>>, Pieces<'a>), ReadErr<'a>>
     requires names { length names.now ≤ 63 }
     requires bound { bound ≤ 2 ^ 48 }
-    ensures gives { Gives (λ x. (x.0.items, pieces_left x.1)) result (spec.side_rest_at S.KIND S.ring S.numbering bound names.now start (pieces_left at.entry)) }
+    ensures gives { Gives (λ x. (x.0.items, pieces_left x.1)) result
+        (spec.side_rest_at S.KIND S.ring S.numbering bound names.now start (pieces_left at.entry)) }
     ensures source { IfOk result (λ x. pieces_source x.1 ≡ pieces_source at.entry) }
 {
     let Some(start) = start else {
@@ -370,7 +382,8 @@ pub(crate) fn side<'a, S: Spelling>(
 ) -> Result<(Vec<Term<S>>, Pieces<'a>), ReadErr<'a>>
     requires names { length names.now ≤ 63 }
     requires bound { bound ≤ 2 ^ 48 }
-    ensures gives { Gives (λ x. (x.0.items, pieces_left x.1)) result (spec.side_at S.KIND S.ring S.numbering bound names.now (pieces_left at.entry)) }
+    ensures gives { Gives (λ x. (x.0.items, pieces_left x.1)) result
+        (spec.side_at S.KIND S.ring S.numbering bound names.now (pieces_left at.entry)) }
     ensures source { IfOk result (λ x. pieces_source x.1 ≡ pieces_source at.entry) }
 {
     let Some((piece, rest)) = at.next() else {

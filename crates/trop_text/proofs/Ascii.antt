@@ -29,7 +29,9 @@ small_bytes (b ∷ bs) h = small_at
   where
     small_at : All (λ b. b < 128) (b ∷ bs)
     small_at zero d i = small_letter b (first_true (is_letter b) (list_all is_word_byte bs) h)
-    small_at (suc k) d i = small_byte _ (AllPass-from_list_all is_word_byte bs (second_true (is_letter b) (list_all is_word_byte bs) h) k d (omega (arith, i)))
+    small_at (suc k) d i = small_byte _ (AllPass-from_list_all is_word_byte bs
+        (second_true (is_letter b) (list_all is_word_byte bs) h) k d (omega (arith, i)))
 
 pub name_is_text : (text : List ℕ) → is_name text ≡ true → IsUtf8 text
-name_is_text text h = IsUtf8-from_ascii text (IsAscii-from_all text (small_bytes text (first_true _ _ (first_true _ _ h))))
+name_is_text text h = IsUtf8-from_ascii text (IsAscii-from_all text
+    (small_bytes text (first_true _ _ (first_true _ _ h))))

@@ -24,7 +24,8 @@ module _ {K : Type 0} (held : K → List ℕ) (text : List ℕ) where
   list_any-held [] = refl
   list_any-held (k ∷ ks) = ap (λ b. bytes_eq text (held k) || b) (list_any-held ks)
 
-  prefix_len-held : (ks : List K) → prefix_len (λ k. not (bytes_eq text (held k))) ks ≡ prefix_len (λ t. not (bytes_eq text t)) (map held ks)
+  prefix_len-held : (ks : List K) → prefix_len (λ k. not (bytes_eq text (held k))) ks ≡ prefix_len
+      (λ t. not (bytes_eq text t)) (map held ks)
   prefix_len-held [] = refl
   prefix_len-held (k ∷ ks) = ap (λ n. cond (not (bytes_eq text (held k))) (1 + n) 0) (prefix_len-held ks)
 
@@ -33,23 +34,28 @@ module _ {K : Type 0} (held : K → List ℕ) (text : List ℕ) where
 
 module _ {K : Type 0} (held : K → List ℕ) where
   -- a key that is put last where no other holds its text
-  pub held-insert : (ks : List K) (k : K) → list_any (bytes_eq (held k)) (map held ks) ≡ false → map held (if list_any (λ x. bytes_eq (held k) (held x)) ks then ks else ks ++ k ∷ []) ≡ map held ks ++ held k ∷ []
+  pub held-insert : (ks : List K) (k : K) → list_any (bytes_eq (held k)) (map held ks) ≡ false →
+      map held (if list_any (λ x. bytes_eq (held k) (held x)) ks then ks else ks ++ k ∷ []) ≡ map held ks ++ held k ∷ []
   held-insert ks k none = rw (list_any-held held (held k) ks ∙ none) (map-append held ks (k ∷ []))
 
 -- ---- the place of a text
 
-pub found_at : (text : List ℕ) (texts : List (List ℕ)) (i : ℕ) → place_of text texts ≡ Some i → (i < length texts) × (slice_get texts i ≡ Some text)
+pub found_at : (text : List ℕ) (texts : List (List ℕ)) (i : ℕ) → place_of text texts ≡ Some i →
+    (i < length texts) × (slice_get texts i ≡ Some text)
 found_at text texts i e =
     let s = position-Some (bytes_eq text) texts i [] e in
     (s.0, slice_get-get_or texts i [] s.0 ∙ ap Some (sym (same_bytes text (get_or texts i []) s.1)))
 
-pub contains_when_any : (text : List ℕ) (texts : List (List ℕ)) → list_any (bytes_eq text) texts ≡ true → Contains texts text
+pub contains_when_any : (text : List ℕ) (texts : List (List ℕ)) → list_any (bytes_eq text) texts ≡ true →
+    Contains texts text
 contains_when_any text texts = Contains-from_any same_bytes text texts
 
-pub any_when_contains : (text : List ℕ) (texts : List (List ℕ)) → Contains texts text → list_any (bytes_eq text) texts ≡ true
+pub any_when_contains : (text : List ℕ) (texts : List (List ℕ)) → Contains texts text →
+    list_any (bytes_eq text) texts ≡ true
 any_when_contains text texts = list_any-from_Contains nat_list_eq_equiv text texts
 
-pub not_contained : (text : List ℕ) (texts : List (List ℕ)) → list_any (bytes_eq text) texts ≡ false → Contains texts text → ⊥
+pub not_contained : (text : List ℕ) (texts : List (List ℕ)) → list_any (bytes_eq text) texts ≡ false →
+    Contains texts text → ⊥
 not_contained text texts none here = let some = any_when_contains text texts here in cc
 
 -- ---- one more name
@@ -57,23 +63,30 @@ not_contained text texts none here = let some = any_when_contains text texts her
 before_or_last : (n i : ℕ) → i < n + 1 → (i < n) ⊎ (i ≡ n)
 before_or_last n i h = grind arith
 
-get-push-before : (texts : List (List ℕ)) (text : List ℕ) (i : ℕ) (d : List ℕ) → i < length texts → get_or (texts ++ text ∷ []) i d ≡ get_or texts i d
+get-push-before : (texts : List (List ℕ)) (text : List ℕ) (i : ℕ) (d : List ℕ) → i < length texts →
+    get_or (texts ++ text ∷ []) i d ≡ get_or texts i d
 get-push-before texts text i d h = get_or-append texts (text ∷ []) d i h
 
-get-push-last : (texts : List (List ℕ)) (text : List ℕ) (i : ℕ) (d : List ℕ) → i ≡ length texts → get_or (texts ++ text ∷ []) i d ≡ text
+get-push-last : (texts : List (List ℕ)) (text : List ℕ) (i : ℕ) (d : List ℕ) → i ≡ length texts →
+    get_or (texts ++ text ∷ []) i d ≡ text
 get-push-last texts text i d h = ap (λ k. get_or (texts ++ text ∷ []) k d) h ∙ get_or-append_seam texts text [] d
 
 module _ (texts : List (List ℕ)) (text : List ℕ) (were : AreNames texts) (new : Contains texts text → ⊥) where
   contained : (i : ℕ) → i < length texts → get_or texts i [] ≡ text → Contains texts text
   contained i h e = subst (Contains texts) e (Contains-get_or texts i [] h)
 
-  distinct_more : (i j : ℕ) → (i < length texts) ⊎ (i ≡ length texts) → (j < length texts) ⊎ (j ≡ length texts) → get_or (texts ++ text ∷ []) i [] ≡ get_or (texts ++ text ∷ []) j [] → i ≡ j
-  distinct_more i j (inl h) (inl k) e = were.distinct i j h k (sym (get-push-before texts text i [] h) ∙ e ∙ get-push-before texts text j [] k)
-  distinct_more i j (inl h) (inr k) e = absurd (new (contained i h (sym (get-push-before texts text i [] h) ∙ e ∙ get-push-last texts text j [] k)))
-  distinct_more i j (inr h) (inl k) e = absurd (new (contained j k (sym (get-push-before texts text j [] k) ∙ sym e ∙ get-push-last texts text i [] h)))
+  distinct_more : (i j : ℕ) → (i < length texts) ⊎ (i ≡ length texts) → (j < length texts) ⊎ (j ≡ length texts) →
+      get_or (texts ++ text ∷ []) i [] ≡ get_or (texts ++ text ∷ []) j [] → i ≡ j
+  distinct_more i j (inl h) (inl k) e = were.distinct i j h k
+      (sym (get-push-before texts text i [] h) ∙ e ∙ get-push-before texts text j [] k)
+  distinct_more i j (inl h) (inr k) e = absurd (new
+      (contained i h (sym (get-push-before texts text i [] h) ∙ e ∙ get-push-last texts text j [] k)))
+  distinct_more i j (inr h) (inl k) e = absurd (new
+      (contained j k (sym (get-push-before texts text j [] k) ∙ sym e ∙ get-push-last texts text i [] h)))
   distinct_more i j (inr h) (inr k) e = h ∙ sym k
 
-  each_more : is_name text ≡ true → (i : ℕ) (d : List ℕ) → (i < length texts) ⊎ (i ≡ length texts) → is_name (get_or (texts ++ text ∷ []) i d) ≡ true
+  each_more : is_name text ≡ true → (i : ℕ) (d : List ℕ) → (i < length texts) ⊎ (i ≡ length texts) →
+      is_name (get_or (texts ++ text ∷ []) i d) ≡ true
   each_more named i d (inl h) = ap is_name (get-push-before texts text i d h) ∙ were.each i d h
   each_more named i d (inr h) = ap is_name (get-push-last texts text i d h) ∙ named
 

@@ -8,7 +8,8 @@ use Rattle.trop_text.specs.Lexer.{BeginWithToken}
 use Rattle.trop_text.specs.Pieces.{LineEnd, ends_from, pieces_from, tokens_in, AreByLine}
 
 -- the first token is of another line than the one that was begun
-other_line : (t : Tok) (ts : List Tok) (line : ℕ) → nat_eq line 0 ≡ false → nat_eq t.line line ≡ false → pieces_from (t ∷ ts) line ≡ LineEnd line ∷ pieces_from (t ∷ ts) 0
+other_line : (t : Tok) (ts : List Tok) (line : ℕ) → nat_eq line 0 ≡ false → nat_eq t.line line ≡ false →
+    pieces_from (t ∷ ts) line ≡ LineEnd line ∷ pieces_from (t ∷ ts) 0
 unfolding pieces_from
 other_line t ts line begun other = rw (begun, other) refl
 
@@ -32,7 +33,8 @@ unfolding pieces_from
 tokens_stay [] line = no_token_behind line
 tokens_stay (t ∷ ts) line = by (nat_eq line 0 || nat_eq t.line line) refl (tokens_stay ts t.line)
   where
-    by : (b : Bool) → (nat_eq line 0 || nat_eq t.line line) ≡ b → tokens_in (pieces_from ts t.line) ≡ ts → tokens_in (pieces_from (t ∷ ts) line) ≡ t ∷ ts
+    by : (b : Bool) → (nat_eq line 0 || nat_eq t.line line) ≡ b → tokens_in (pieces_from ts t.line) ≡ ts →
+        tokens_in (pieces_from (t ∷ ts) line) ≡ t ∷ ts
     by true e rest = rw e (ap (λ (us : List Tok). t ∷ us) rest)
     by false e rest = rw e (ap (λ (us : List Tok). t ∷ us) rest)
 
@@ -59,7 +61,8 @@ unfolding pieces_from
 pieces_by_line [] line = ends_by_line line
 pieces_by_line (t ∷ ts) line = by (nat_eq line 0 || nat_eq t.line line) refl (pieces_by_line ts t.line)
   where
-    by : (b : Bool) → (nat_eq line 0 || nat_eq t.line line) ≡ b → AreByLine t.line (pieces_from ts t.line) → AreByLine line (pieces_from (t ∷ ts) line)
+    by : (b : Bool) → (nat_eq line 0 || nat_eq t.line line) ≡ b → AreByLine t.line (pieces_from ts t.line) →
+        AreByLine line (pieces_from (t ∷ ts) line)
     by true e rest = rw e (in_this_line line t.line e, rest)
     by false e rest =
         let other = in_other_line line t.line e in

@@ -21,7 +21,8 @@ module _ (p : ℕ → Bool) where
   all_in_prefix [] = refl
   all_in_prefix (x ∷ xs) = by (p x) refl (all_in_prefix xs)
     where
-      by : (b : Bool) → p x ≡ b → list_all p (take (prefix_len p xs) xs) ≡ true → list_all p (take (prefix_len p (x ∷ xs)) (x ∷ xs)) ≡ true
+      by : (b : Bool) → p x ≡ b → list_all p (take (prefix_len p xs) xs) ≡ true →
+          list_all p (take (prefix_len p (x ∷ xs)) (x ∷ xs)) ≡ true
       by true e rest =
           let n : 1 + prefix_len p xs ≡ suc (prefix_len p xs) = omega arith in
           rw (e, n) (and_both (p x) (list_all p (take (prefix_len p xs) xs)) e rest)
@@ -45,19 +46,22 @@ no_token_is_empty : is_token_text [] ≡ true → ⊥
 no_token_is_empty h = true≢false (sym h)
 
 -- a token text that begins with a letter is a word
-word_by_letter : (b : ℕ) (bs : List ℕ) → is_letter b ≡ true → is_token_text (b ∷ bs) ≡ true → list_all is_word_byte bs ≡ true
+word_by_letter : (b : ℕ) (bs : List ℕ) → is_letter b ≡ true → is_token_text (b ∷ bs) ≡ true →
+    list_all is_word_byte bs ≡ true
 word_by_letter b bs letter h = by (or_cases (is_word (b ∷ bs) || are_digits (b ∷ bs)) (is_sign (b ∷ bs)) h)
   where
     early : (is_word (b ∷ bs) ≡ true) ⊎ (are_digits (b ∷ bs) ≡ true) → list_all is_word_byte bs ≡ true
     early (inl word) = and_second (is_letter b) (list_all is_word_byte bs) word
     early (inr digits) = absurd (not_both b letter (and_first (is_digit b) (list_all is_digit bs) digits))
 
-    by : ((is_word (b ∷ bs) || are_digits (b ∷ bs)) ≡ true) ⊎ (is_sign (b ∷ bs) ≡ true) → list_all is_word_byte bs ≡ true
+    by : ((is_word (b ∷ bs) || are_digits (b ∷ bs)) ≡ true) ⊎ (is_sign (b ∷ bs) ≡ true) →
+        list_all is_word_byte bs ≡ true
     by (inl e) = early (or_cases (is_word (b ∷ bs)) (are_digits (b ∷ bs)) e)
     by (inr sign) = clash letter (sign_begins_with_no_letter b bs sign)
 
 -- one that begins with a digit is of digits
-digits_by_digit : (b : ℕ) (bs : List ℕ) → is_letter b ≡ false → is_digit b ≡ true → is_token_text (b ∷ bs) ≡ true → list_all is_digit bs ≡ true
+digits_by_digit : (b : ℕ) (bs : List ℕ) → is_letter b ≡ false → is_digit b ≡ true → is_token_text (b ∷ bs) ≡ true →
+    list_all is_digit bs ≡ true
 digits_by_digit b bs no_letter digit h = by (or_cases (is_word (b ∷ bs) || are_digits (b ∷ bs)) (is_sign (b ∷ bs)) h)
   where
     early : (is_word (b ∷ bs) ≡ true) ⊎ (are_digits (b ∷ bs) ≡ true) → list_all is_digit bs ≡ true
@@ -69,7 +73,8 @@ digits_by_digit b bs no_letter digit h = by (or_cases (is_word (b ∷ bs) || are
     by (inr sign) = clash digit (sign_begins_with_no_digit b bs sign)
 
 -- any other is a sign
-sign_by_others : (b : ℕ) (bs : List ℕ) → is_letter b ≡ false → is_digit b ≡ false → is_token_text (b ∷ bs) ≡ true → is_sign (b ∷ bs) ≡ true
+sign_by_others : (b : ℕ) (bs : List ℕ) → is_letter b ≡ false → is_digit b ≡ false → is_token_text (b ∷ bs) ≡ true →
+    is_sign (b ∷ bs) ≡ true
 sign_by_others b bs no_letter no_digit h = by (or_cases (is_word (b ∷ bs) || are_digits (b ∷ bs)) (is_sign (b ∷ bs)) h)
   where
     early : (is_word (b ∷ bs) ≡ true) ⊎ (are_digits (b ∷ bs) ≡ true) → is_sign (b ∷ bs) ≡ true
@@ -86,7 +91,8 @@ sign_by_others b bs no_letter no_digit h = by (or_cases (is_word (b ∷ bs) || a
 abbrev Fronts : ℕ → List ℕ → (ℕ → Type 0) → Type 0
 Fronts b bs P = (fs back : List ℕ) → bs ≡ fs ++ back → is_token_text (b ∷ fs) ≡ true → P (length fs + 1)
 
-at_fronts : (b : ℕ) (bs : List ℕ) (P : ℕ → Type 0) → Fronts b bs P → (front back : List ℕ) → b ∷ bs ≡ front ++ back → is_token_text front ≡ true → P (length front)
+at_fronts : (b : ℕ) (bs : List ℕ) (P : ℕ → Type 0) → Fronts b bs P → (front back : List ℕ) → b ∷ bs ≡ front ++ back →
+    is_token_text front ≡ true → P (length front)
 at_fronts b bs P h [] back e is = absurd (no_token_is_empty is)
 at_fronts b bs P h (c ∷ fs) back e is =
     let first : b ≡ c = cc in
@@ -99,10 +105,12 @@ pub record Fits (kind : TokenKind) (text after : List ℕ) : Type 0 where
   pub longest : IsLongest kind text after
   pub plain : list_all is_plain text ≡ true
 
-pub all_imply : (p q : ℕ → Bool) → ((b : ℕ) → p b ≡ true → q b ≡ true) → (xs : List ℕ) → list_all p xs ≡ true → list_all q xs ≡ true
+pub all_imply : (p q : ℕ → Bool) → ((b : ℕ) → p b ≡ true → q b ≡ true) → (xs : List ℕ) → list_all p xs ≡ true →
+    list_all q xs ≡ true
 all_imply p q h [] all = refl
 all_imply p q h (x ∷ xs) all =
-    and_both (q x) (list_all q xs) (h x (and_first (p x) (list_all p xs) all)) (all_imply p q h xs (and_second (p x) (list_all p xs) all))
+    and_both (q x) (list_all q xs) (h x (and_first (p x) (list_all p xs) all))
+    (all_imply p q h xs (and_second (p x) (list_all p xs) all))
 
 word_byte_is_plain : (b : ℕ) → is_word_byte b ≡ true → is_plain b ≡ true
 word_byte_is_plain b h = grind (arith, nat_tests)
@@ -127,27 +135,36 @@ module _ (p : ℕ → Bool) (bs : List ℕ) where
   whole_run = take-append-drop (prefix_len p bs) bs
 
   -- what passes the test in front of them is no longer than the run
-  within_run : (fs back : List ℕ) → bs ≡ fs ++ back → list_all p fs ≡ true → length fs + 1 ≤ length (take (prefix_len p bs) bs) + 1
+  within_run : (fs back : List ℕ) → bs ≡ fs ++ back → list_all p fs ≡ true →
+      length fs + 1 ≤ length (take (prefix_len p bs) bs) + 1
   within_run fs back e all =
       let n = length-prefix_len p bs in
       let le = prefix_is_longest p fs back all in
       let same : prefix_len p (fs ++ back) ≡ prefix_len p bs = ap (prefix_len p) (sym e) in
       omega arith
 
-pub word_fits : (b : ℕ) (bs : List ℕ) → is_letter b ≡ true → Fits Word (b ∷ take (prefix_len is_word_byte bs) bs) (drop (prefix_len is_word_byte bs) bs)
+pub word_fits : (b : ℕ) (bs : List ℕ) → is_letter b ≡ true →
+    Fits Word (b ∷ take (prefix_len is_word_byte bs) bs) (drop (prefix_len is_word_byte bs) bs)
 word_fits b bs letter =
     let tail = take (prefix_len is_word_byte bs) bs in
     let all = all_in_prefix is_word_byte bs in
     record {
       longest = record {
         is = and_both (is_letter b) (list_all is_word_byte tail) letter all;
-        longest = at_fronts b (tail ++ drop (prefix_len is_word_byte bs) bs) (λ n. (Word ≢ Bad) × (n ≤ length (b ∷ tail)))
-            (λ fs back e is. (not_bad, let le = within_run is_word_byte bs fs back (sym (whole_run is_word_byte bs) ∙ e) (word_by_letter b fs letter is) in omega arith));
+        longest = at_fronts b (tail ++ drop (prefix_len is_word_byte bs) bs)
+            (λ n. (Word ≢ Bad) × (n ≤ length (b ∷ tail)))
+            (λ fs back e is. (
+              not_bad,
+              let le = within_run is_word_byte bs fs back (sym (whole_run is_word_byte bs) ∙ e)
+                  (word_by_letter b fs letter is) in omega arith,
+            ));
       };
-      plain = all_imply is_word_byte is_plain word_byte_is_plain (b ∷ tail) (and_both (is_word_byte b) (list_all is_word_byte tail) (letter_is_word_byte b letter) all);
+      plain = all_imply is_word_byte is_plain word_byte_is_plain (b ∷ tail)
+          (and_both (is_word_byte b) (list_all is_word_byte tail) (letter_is_word_byte b letter) all);
     }
 
-pub digits_fit : (b : ℕ) (bs : List ℕ) → is_letter b ≡ false → is_digit b ≡ true → Fits Digits (b ∷ take (prefix_len is_digit bs) bs) (drop (prefix_len is_digit bs) bs)
+pub digits_fit : (b : ℕ) (bs : List ℕ) → is_letter b ≡ false → is_digit b ≡ true →
+    Fits Digits (b ∷ take (prefix_len is_digit bs) bs) (drop (prefix_len is_digit bs) bs)
 digits_fit b bs no_letter digit =
     let tail = take (prefix_len is_digit bs) bs in
     let all = and_both (is_digit b) (list_all is_digit tail) digit (all_in_prefix is_digit bs) in
@@ -155,7 +172,12 @@ digits_fit b bs no_letter digit =
       longest = record {
         is = all;
         longest = at_fronts b (tail ++ drop (prefix_len is_digit bs) bs) (λ n. (Digits ≢ Bad) × (n ≤ length (b ∷ tail)))
-            (λ fs back e is. (digits_not_bad, let le = within_run is_digit bs fs back (sym (whole_run is_digit bs) ∙ e) (digits_by_digit b fs no_letter digit is) in omega arith));
+            (λ fs back e is. (
+              digits_not_bad,
+              let le =
+                  within_run is_digit bs fs back (sym (whole_run is_digit bs) ∙ e)
+                  (digits_by_digit b fs no_letter digit is) in omega arith,
+            ));
       };
       plain = all_imply is_digit is_plain (λ d h. word_byte_is_plain d (digit_is_word_byte d h)) (b ∷ tail) all;
     }
@@ -182,7 +204,11 @@ module _ (b : ℕ) (no_letter : is_letter b ≡ false) (no_digit : is_digit b �
         longest = record {
           is = sign;
           longest = at_fronts b bs (λ n. (Sign ≢ Bad) × (n ≤ length (b ∷ [])))
-              (λ fs back e is. (sign_not_bad, let one = ap length (only_one b bs fs back none e (sign_by_others b fs no_letter no_digit is)) in omega arith));
+              (λ fs back e is. (
+                sign_not_bad,
+                let one =
+                    ap length (only_one b bs fs back none e (sign_by_others b fs no_letter no_digit is)) in omega arith,
+              ));
         };
         plain = sign_is_plain (b ∷ []) sign;
       }
@@ -198,12 +224,17 @@ module _ (b : ℕ) (no_letter : is_letter b ≡ false) (no_digit : is_digit b �
         longest = record {
           is = sign;
           longest = at_fronts b (c ∷ bs) (λ n. (Sign ≢ Bad) × (n ≤ length (b ∷ c ∷ [])))
-              (λ fs back e is. (sign_not_bad, let two = within_two fs (sign_by_others b fs no_letter no_digit is) in omega arith));
+              (λ fs back e is. (
+                sign_not_bad,
+                let two = within_two fs (sign_by_others b fs no_letter no_digit is) in
+                    omega arith,
+              ));
         };
         plain = sign_is_plain (b ∷ c ∷ []) sign;
       }
 
-  no_sign : (bs fs back : List ℕ) → is_short_sign b ≡ false → NoLong b bs → bs ≡ fs ++ back → is_token_text (b ∷ fs) ≡ true → ⊥
+  no_sign : (bs fs back : List ℕ) → is_short_sign b ≡ false → NoLong b bs → bs ≡ fs ++ back →
+      is_token_text (b ∷ fs) ≡ true → ⊥
   no_sign bs fs back short none e is =
       let sign = sign_by_others b fs no_letter no_digit is in
       clash (sign_of_one b (subst (λ xs. is_sign (b ∷ xs) ≡ true) (only_one b bs fs back none e sign) sign)) short
@@ -212,7 +243,8 @@ module _ (b : ℕ) (no_letter : is_letter b ≡ false) (no_digit : is_digit b �
   bad_fits bs short none plain = record {
     longest = record {
       is = refl;
-      longest = at_fronts b bs (λ n. (Bad ≢ Bad) × (n ≤ length (b ∷ []))) (λ fs back e is. absurd (no_sign bs fs back short none e is));
+      longest = at_fronts b bs (λ n. (Bad ≢ Bad) × (n ≤ length (b ∷ [])))
+          (λ fs back e is. absurd (no_sign bs fs back short none e is));
     };
     plain = and_both (is_plain b) true plain refl;
   }
@@ -221,16 +253,20 @@ module _ (b : ℕ) (no_letter : is_letter b ≡ false) (no_digit : is_digit b �
   SignKind n = if nat_eq n 0 then Bad else Sign
 
   alone_fits : (s : Bool) (bs : List ℕ) → is_short_sign b ≡ s → NoLong b bs → is_plain b ≡ true
-      → Fits (SignKind (if s then 1 else 0)) (b ∷ take ((if s then 1 else 0) - 1) bs) (drop ((if s then 1 else 0) - 1) bs)
+      → Fits (SignKind (if s then 1 else 0)) (b ∷ take ((if s then 1 else 0) - 1) bs)
+      (drop ((if s then 1 else 0) - 1) bs)
   alone_fits true bs e none plain = short_fits bs e none
   alone_fits false bs e none plain = bad_fits bs e none plain
 
   next_fits : (l s : Bool) (c : ℕ) (bs : List ℕ) → is_long_sign b c ≡ l → is_short_sign b ≡ s → is_plain b ≡ true
-      → Fits (SignKind (if l then 2 else (if s then 1 else 0))) (b ∷ take ((if l then 2 else (if s then 1 else 0)) - 1) (c ∷ bs)) (drop ((if l then 2 else (if s then 1 else 0)) - 1) (c ∷ bs))
+      → Fits (SignKind (if l then 2 else (if s then 1 else 0)))
+      (b ∷ take ((if l then 2 else (if s then 1 else 0)) - 1) (c ∷ bs))
+      (drop ((if l then 2 else (if s then 1 else 0)) - 1) (c ∷ bs))
   next_fits true s c bs e k plain = long_fits c bs e
   next_fits false s c bs e k plain = alone_fits s (c ∷ bs) k e plain
 
-  sign_fits : (bs : List ℕ) → is_plain b ≡ true → Fits (SignKind (sign_len b bs)) (b ∷ take (sign_len b bs - 1) bs) (drop (sign_len b bs - 1) bs)
+  sign_fits : (bs : List ℕ) → is_plain b ≡ true → Fits (SignKind (sign_len b bs)) (b ∷ take (sign_len b bs - 1) bs)
+      (drop (sign_len b bs - 1) bs)
   unfolding sign_len
   sign_fits [] plain = alone_fits (is_short_sign b) [] refl tt plain
   sign_fits (c ∷ bs) plain = next_fits (is_long_sign b c) (is_short_sign b) c bs refl refl plain
@@ -240,11 +276,13 @@ plain_byte b h k = rw (h, k) refl
 
 -- ---- all kinds
 
-pub token_fits : (b : ℕ) (bs : List ℕ) → is_line_feed b ≡ false → is_hash b ≡ false → Fits (kind_of b bs) (b ∷ take (tail_len b bs) bs) (drop (tail_len b bs) bs)
+pub token_fits : (b : ℕ) (bs : List ℕ) → is_line_feed b ≡ false → is_hash b ≡ false →
+    Fits (kind_of b bs) (b ∷ take (tail_len b bs) bs) (drop (tail_len b bs) bs)
 unfolding tail_len
 token_fits b bs no_feed no_hash = by (is_letter b) (is_digit b) refl refl
   where
-    by : (l d : Bool) → is_letter b ≡ l → is_digit b ≡ d → Fits (kind_of b bs) (b ∷ take (tail_len b bs) bs) (drop (tail_len b bs) bs)
+    by : (l d : Bool) → is_letter b ≡ l → is_digit b ≡ d →
+        Fits (kind_of b bs) (b ∷ take (tail_len b bs) bs) (drop (tail_len b bs) bs)
     by true d e k = rw e (word_fits b bs e)
     by false true e k = rw (e, k) (digits_fit b bs e k)
     by false false e k = rw (e, k) (sign_fits b e k bs (plain_byte b no_feed no_hash))

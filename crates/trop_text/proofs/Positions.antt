@@ -30,4 +30,5 @@ module _ (before : List ℕ) (b : ℕ) where
   in_comment-feed e = rw (reverse-last before b, e) refl
 
   pub in_comment-in : is_line_feed b ≡ false → in_comment (before ++ b ∷ []) ≡ (is_hash b || in_comment before)
-  in_comment-in e = let one : 1 + prefix_len is_in_line (reverse before) ≡ suc (prefix_len is_in_line (reverse before)) = omega arith in rw (reverse-last before b, e, one) refl
+  in_comment-in e = let one : 1 + prefix_len is_in_line (reverse before) ≡ suc
+      (prefix_len is_in_line (reverse before)) = omega arith in rw (reverse-last before b, e, one) refl

@@ -27,11 +27,14 @@ and_second true b h = h
 and_second false b h = absurd (true≢false (sym h))
 
 -- a text among others has what all of them have
-pub shared : (q : List ℕ → Bool) (texts : List (List ℕ)) (text : List ℕ) → list_all q texts ≡ true → list_any (bytes_eq text) texts ≡ true → q text ≡ true
+pub shared : (q : List ℕ → Bool) (texts : List (List ℕ)) (text : List ℕ) → list_all q texts ≡ true →
+    list_any (bytes_eq text) texts ≡ true → q text ≡ true
 shared q [] text all any = absurd (true≢false (sym any))
-shared q (t ∷ ts) text all any = by (shared q ts text (and_second (q t) (list_all q ts) all)) (or_cases (bytes_eq text t) (list_any (bytes_eq text) ts) any)
+shared q (t ∷ ts) text all any = by (shared q ts text (and_second (q t) (list_all q ts) all))
+    (or_cases (bytes_eq text t) (list_any (bytes_eq text) ts) any)
   where
-    by : (list_any (bytes_eq text) ts ≡ true → q text ≡ true) → (bytes_eq text t ≡ true) ⊎ (list_any (bytes_eq text) ts ≡ true) → q text ≡ true
+    by : (list_any (bytes_eq text) ts ≡ true → q text ≡ true) →
+        (bytes_eq text t ≡ true) ⊎ (list_any (bytes_eq text) ts ≡ true) → q text ≡ true
     by later (inl here) = ap q ((bytes_eq-Decides text t).0 here) ∙ and_first (q t) (list_all q ts) all
     by later (inr there) = later there
 
@@ -59,14 +62,16 @@ sign_begins_apart : (text : List ℕ) → is_sign text ≡ true → begins_apart
 unfolding begins_apart
 sign_begins_apart text h = by (or_cases (list_any (bytes_eq text) long_signs) (list_any (bytes_eq text) short_signs) h)
   where
-    by : (list_any (bytes_eq text) long_signs ≡ true) ⊎ (list_any (bytes_eq text) short_signs ≡ true) → begins_apart text ≡ true
+    by : (list_any (bytes_eq text) long_signs ≡ true) ⊎ (list_any (bytes_eq text) short_signs ≡ true) →
+        begins_apart text ≡ true
     by (inl long) = shared begins_apart long_signs text refl long
     by (inr short) = shared begins_apart short_signs text refl short
 
 pub sign_is_plain : (text : List ℕ) → is_sign text ≡ true → list_all is_plain text ≡ true
 sign_is_plain text h = by (or_cases (list_any (bytes_eq text) long_signs) (list_any (bytes_eq text) short_signs) h)
   where
-    by : (list_any (bytes_eq text) long_signs ≡ true) ⊎ (list_any (bytes_eq text) short_signs ≡ true) → list_all is_plain text ≡ true
+    by : (list_any (bytes_eq text) long_signs ≡ true) ⊎ (list_any (bytes_eq text) short_signs ≡ true) →
+        list_all is_plain text ≡ true
     by (inl long) = shared (list_all is_plain) long_signs text refl long
     by (inr short) = shared (list_all is_plain) short_signs text refl short
 
@@ -76,11 +81,13 @@ not_true false h = refl
 
 pub sign_begins_with_no_letter : (b : ℕ) (bs : List ℕ) → is_sign (b ∷ bs) ≡ true → is_letter b ≡ false
 unfolding begins_apart
-sign_begins_with_no_letter b bs h = not_true (is_letter b) (and_first (not (is_letter b)) (not (is_digit b)) (sign_begins_apart (b ∷ bs) h))
+sign_begins_with_no_letter b bs h = not_true (is_letter b)
+    (and_first (not (is_letter b)) (not (is_digit b)) (sign_begins_apart (b ∷ bs) h))
 
 pub sign_begins_with_no_digit : (b : ℕ) (bs : List ℕ) → is_sign (b ∷ bs) ≡ true → is_digit b ≡ false
 unfolding begins_apart
-sign_begins_with_no_digit b bs h = not_true (is_digit b) (and_second (not (is_letter b)) (not (is_digit b)) (sign_begins_apart (b ∷ bs) h))
+sign_begins_with_no_digit b bs h = not_true (is_digit b)
+    (and_second (not (is_letter b)) (not (is_digit b)) (sign_begins_apart (b ∷ bs) h))
 
 -- a sign of one byte, and one of more
 pub sign_of_one : (b : ℕ) → is_sign (b ∷ []) ≡ true → is_short_sign b ≡ true
@@ -91,13 +98,15 @@ sign_of_one b h = by (or_cases (list_any (bytes_eq (b ∷ [])) long_signs) (is_s
     by (inr short) = short
 
 pub sign_of_more : (b c : ℕ) (bs : List ℕ) → is_sign (b ∷ c ∷ bs) ≡ true → (bs ≡ []) × (is_long_sign b c ≡ true)
-sign_of_more b c bs h = by (or_cases (list_any (bytes_eq (b ∷ c ∷ bs)) long_signs) (list_any (bytes_eq (b ∷ c ∷ bs)) short_signs) h)
+sign_of_more b c bs h = by (or_cases (list_any (bytes_eq (b ∷ c ∷ bs)) long_signs)
+    (list_any (bytes_eq (b ∷ c ∷ bs)) short_signs) h)
   where
     empty : (xs : List ℕ) → length (b ∷ c ∷ xs) ≡ 2 → xs ≡ []
     empty [] e = refl
     empty (x ∷ xs) e = absurd (omega arith)
 
-    by : (list_any (bytes_eq (b ∷ c ∷ bs)) long_signs ≡ true) ⊎ (list_any (bytes_eq (b ∷ c ∷ bs)) short_signs ≡ true) → (bs ≡ []) × (is_long_sign b c ≡ true)
+    by : (list_any (bytes_eq (b ∷ c ∷ bs)) long_signs ≡ true) ⊎ (list_any (bytes_eq (b ∷ c ∷ bs)) short_signs ≡ true) →
+        (bs ≡ []) × (is_long_sign b c ≡ true)
     by (inl long) =
         let none : bs ≡ [] = empty bs (long_length (b ∷ c ∷ bs) long) in
         (none, subst (λ xs. list_any (bytes_eq (b ∷ c ∷ xs)) long_signs ≡ true) none long)

@@ -41,16 +41,21 @@ drop_front [] ys = refl
 drop_front (x ∷ xs) ys = drop_front xs ys
 
 -- the bytes b ∷ bs before rest are one token
-one_token : (kind : TokenKind) (b : ℕ) (bs rest : List ℕ) (line column : ℕ) → Stands b → kind_of b (bs ++ rest) ≡ kind → tail_len b (bs ++ rest) ≡ length bs
-    → tokens_past 0 (b ∷ (bs ++ rest)) line column ≡ tok kind (b ∷ bs) line column ∷ tokens_past 0 rest line (column + length (b ∷ bs))
+one_token : (kind : TokenKind) (b : ℕ) (bs rest : List ℕ) (line column : ℕ) → Stands b → kind_of b (bs ++ rest) ≡ kind →
+    tail_len b (bs ++ rest) ≡ length bs
+    → tokens_past 0 (b ∷ (bs ++ rest)) line column ≡ tok kind (b ∷ bs) line column ∷ tokens_past 0 rest line
+    (column + length (b ∷ bs))
 unfolding tokens_past
 one_token kind b bs rest line column stands k n =
     let within : length bs ≤ length (bs ++ rest) = omega (arith, length-append bs rest) in
     let place : column + 1 + length bs ≡ column + length (b ∷ bs) = omega arith in
-    let skip = tokens_skip (length bs) (bs ++ rest) line (column + 1) within ∙ ap (λ zs. tokens_past 0 zs line (column + 1 + length bs)) (drop_front bs rest) ∙ ap (λ c. tokens_past 0 rest line c) place in
+    let skip = tokens_skip (length bs) (bs ++ rest) line (column + 1) within
+    ∙ ap (λ zs. tokens_past 0 zs line (column + 1 + length bs)) (drop_front bs rest)
+    ∙ ap (λ c. tokens_past 0 rest line c) place in
     rw (stands.0, stands.1, stands.2, k, n, take_front bs rest) (ap (λ ts. tok kind (b ∷ bs) line column ∷ ts) skip)
 
-one_lexed : (kind : TokenKind) (b : ℕ) (bs rest : List ℕ) (line column : ℕ) → Stands b → kind_of b (bs ++ rest) ≡ kind → tail_len b (bs ++ rest) ≡ length bs → IsLexed (b ∷ bs) rest line column (IsOne kind (b ∷ bs))
+one_lexed : (kind : TokenKind) (b : ℕ) (bs rest : List ℕ) (line column : ℕ) → Stands b → kind_of b (bs ++ rest) ≡ kind →
+    tail_len b (bs ++ rest) ≡ length bs → IsLexed (b ∷ bs) rest line column (IsOne kind (b ∷ bs))
 one_lexed kind b bs rest line column stands k n = record {
   tokens = tok kind (b ∷ bs) line column ∷ [];
   lexed = one_token kind b bs rest line column stands k n;
@@ -101,13 +106,16 @@ word_written (b ∷ bs) h = record { at = at }
     is_kind rest = rw letter refl
 
     tail : (rest : List ℕ) → StopsWord rest → tail_len b (bs ++ rest) ≡ length bs
-    tail rest s = rw letter (whole_prefix is_word_byte bs rest (and_second (is_letter b) (list_all is_word_byte bs) h) (ends rest s))
+    tail rest s = rw letter (whole_prefix is_word_byte bs rest (and_second (is_letter b) (list_all is_word_byte bs) h)
+        (ends rest s))
 
     at : (rest : List ℕ) (line column : ℕ) → StopsWord rest → IsLexed (b ∷ bs) rest line column (IsOne Word (b ∷ bs))
-    at rest line column s = one_lexed Word b bs rest line column (letter_stands b letter) (is_kind (bs ++ rest)) (tail rest s)
+    at rest line column s = one_lexed Word b bs rest line column (letter_stands b letter) (is_kind (bs ++ rest))
+        (tail rest s)
 
 -- digits, which are at least one
-digit_texts_written : (b : ℕ) (bs : List ℕ) → list_all is_digit (b ∷ bs) ≡ true → IsWritten StopsWord (b ∷ bs) (IsOne Digits (b ∷ bs))
+digit_texts_written : (b : ℕ) (bs : List ℕ) → list_all is_digit (b ∷ bs) ≡ true →
+    IsWritten StopsWord (b ∷ bs) (IsOne Digits (b ∷ bs))
 unfolding Ends tail_len
 digit_texts_written b bs h = record { at = at }
   where
@@ -122,17 +130,20 @@ digit_texts_written b bs h = record { at = at }
     is_kind rest = rw (digit_is_no_letter b digit, digit) refl
 
     tail : (rest : List ℕ) → StopsWord rest → tail_len b (bs ++ rest) ≡ length bs
-    tail rest s = rw (digit_is_no_letter b digit, digit) (whole_prefix is_digit bs rest (and_second (is_digit b) (list_all is_digit bs) h) (ends rest s))
+    tail rest s = rw (digit_is_no_letter b digit, digit)
+        (whole_prefix is_digit bs rest (and_second (is_digit b) (list_all is_digit bs) h) (ends rest s))
 
     at : (rest : List ℕ) (line column : ℕ) → StopsWord rest → IsLexed (b ∷ bs) rest line column (IsOne Digits (b ∷ bs))
-    at rest line column s = one_lexed Digits b bs rest line column (digit_stands b digit) (is_kind (bs ++ rest)) (tail rest s)
+    at rest line column s = one_lexed Digits b bs rest line column (digit_stands b digit) (is_kind (bs ++ rest))
+        (tail rest s)
 
 digit_passes : (c : ℕ) → IsInRange 48 57 c → is_digit c ≡ true
 digit_passes c h = and_both _ _ (le-leb 48 c (omega (arith, h))) (le-leb c 57 (omega (arith, h)))
 
 digits_pass : (ds : List ℕ) → AllDigits 10 ds → list_all is_digit ds ≡ true
 digits_pass [] h = refl
-digits_pass (d ∷ ds) h = and_both (is_digit d) (list_all is_digit ds) (digit_passes d (digit_from_value d h.0)) (digits_pass ds h.1)
+digits_pass (d ∷ ds) h = and_both (is_digit d) (list_all is_digit ds) (digit_passes d (digit_from_value d h.0))
+    (digits_pass ds h.1)
 
 some_digits_written : (ds : List ℕ) → 0 < length ds → AllDigits 10 ds → IsWritten StopsWord ds (IsOne Digits ds)
 some_digits_written [] l h = absurd (omega arith)
@@ -191,12 +202,14 @@ long_written b c h = record { at = at }
     tail : (rest : List ℕ) → tail_len b (c ∷ rest) ≡ 1
     tail rest = rw (h.no_letter, h.no_digit, long_len b c rest h) refl
 
-    at : (rest : List ℕ) (line column : ℕ) → Always rest → IsLexed (b ∷ c ∷ []) rest line column (IsOne Sign (b ∷ c ∷ []))
+    at : (rest : List ℕ) (line column : ℕ) → Always rest →
+        IsLexed (b ∷ c ∷ []) rest line column (IsOne Sign (b ∷ c ∷ []))
     at rest line column s = one_lexed Sign b (c ∷ []) rest line column h.stands (is_kind rest) (tail rest)
 
 -- ---- blanks
 
-pub blank_written : {S : List ℕ → Type 0} {text : List ℕ} {G : List Piece → Type 0} → IsWritten S text G → IsWritten S (codes " " ++ text) G
+pub blank_written : {S : List ℕ → Type 0} {text : List ℕ} {G : List Piece → Type 0} → IsWritten S text G →
+    IsWritten S (codes " " ++ text) G
 unfolding tokens_past
 blank_written {S} {text} {G} g = record { at = at }
   where
@@ -204,4 +217,10 @@ blank_written {S} {text} {G} g = record { at = at }
     at rest line column s =
         let a = g.at rest line (column + 1) s in
         let place : column + 1 + length text ≡ column + length (codes " " ++ text) = omega arith in
-        record { tokens = a.tokens; lexed = a.lexed ∙ ap (λ c. a.tokens ++ tokens_past 0 rest line c) place; on = a.on; is = a.is }
+        record {
+          tokens = a.tokens;
+          lexed = a.lexed ∙ ap (λ c. a.tokens ++ tokens_past 0 rest line c) place;
+          on =
+              a.on;
+          is = a.is;
+        }

@@ -32,7 +32,8 @@ IsTextOf Bad text = length text ≡ 1
 -- is a byte with which they begin no token text.
 pub record IsLongest (kind : TokenKind) (text after : List ℕ) : Type 0 where
   pub is : IsTextOf kind text
-  pub longest : (front back : List ℕ) → text ++ after ≡ front ++ back → is_token_text front ≡ true → (kind ≢ Bad) × (length front ≤ length text)
+  pub longest : (front back : List ℕ) → text ++ after ≡ front ++ back → is_token_text front ≡ true →
+      (kind ≢ Bad) × (length front ≤ length text)
 
 -- the bytes of the last line of these, up to its end
 abbrev pub in_last_line : List ℕ → List ℕ
@@ -65,4 +66,5 @@ pub record IsFirstToken (before rest : List ℕ) (t : Tok) : Type 0 where
 -- the tokens of the bytes rest, which stand behind the bytes before
 abbrev pub AreTokens : List ℕ → List ℕ → List Tok → Type 0
 AreTokens before rest [] = IsGap before rest
-AreTokens before rest (t ∷ ts) = (first : IsFirstToken before rest t) × AreTokens (before ++ first.gap ++ t.text) first.after ts
+AreTokens before rest (t ∷ ts) = (first : IsFirstToken before rest t)
+    × AreTokens (before ++ first.gap ++ t.text) first.after ts

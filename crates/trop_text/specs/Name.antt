@@ -13,8 +13,10 @@ is_word (b ∷ bs) = is_letter b && list_all is_word_byte bs
 abbrev pub reserved_words : List (List ℕ)
 reserved_words =
     codes "oo" ∷ codes "max" ∷ codes "min" ∷ codes "or" ∷ codes "true" ∷ codes "false"
-    ∷ codes "vars" ∷ codes "havoc" ∷ codes "assume" ∷ codes "assert" ∷ codes "if" ∷ codes "else" ∷ codes "while" ∷ codes "skip"
-    ∷ codes "point" ∷ codes "ray" ∷ codes "and" ∷ codes "at" ∷ codes "inv" ∷ codes "end" ∷ codes "start" ∷ codes "choices" ∷ []
+    ∷ codes "vars" ∷ codes "havoc" ∷ codes "assume" ∷ codes "assert" ∷ codes "if" ∷ codes "else" ∷ codes "while" ∷ codes
+    "skip"
+    ∷ codes "point" ∷ codes "ray" ∷ codes "and" ∷ codes "at" ∷ codes "inv" ∷ codes "end" ∷ codes "start" ∷ codes
+    "choices" ∷ []
 
 abbrev pub is_reserved : List ℕ → Bool
 is_reserved text = list_any (bytes_eq text) reserved_words

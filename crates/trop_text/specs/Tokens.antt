@@ -40,7 +40,8 @@ kind_of b bs = if is_letter b then Word else (if is_digit b then Digits else (if
 
 -- How many bytes follow b in the same token, which is as long as possible. A byte that begins no token is one alone.
 unfoldable pub tail_len : ℕ → List ℕ → ℕ
-tail_len b bs = if is_letter b then prefix_len is_word_byte bs else (if is_digit b then prefix_len is_digit bs else sign_len b bs - 1)
+tail_len b bs = if is_letter b then prefix_len is_word_byte bs else
+    (if is_digit b then prefix_len is_digit bs else sign_len b bs - 1)
 
 -- The tokens of the bytes past the first `skip`, which are the rest of a token or of a comment.
 unfoldable pub tokens_past : ℕ → List ℕ → ℕ → ℕ → List Tok
@@ -50,7 +51,8 @@ tokens_past zero (b ∷ bs) line column =
     if is_line_feed b then tokens_past 0 bs (line + 1) 1
     else (if is_blank b then tokens_past 0 bs line (column + 1)
     else (if is_hash b then tokens_past (prefix_len is_in_line bs) bs line (column + 1)
-    else (record { kind = kind_of b bs; text = b ∷ take (tail_len b bs) bs; line = line; column = column } ∷ tokens_past (tail_len b bs) bs line (column + 1))))
+    else (record { kind = kind_of b bs; text = b ∷ take (tail_len b bs) bs; line = line; column = column } ∷ tokens_past
+    (tail_len b bs) bs line (column + 1))))
 
 -- the tokens of what is left of a text, from a place on
 abbrev pub tokens_at : List ℕ → ℕ → ℕ → List Tok

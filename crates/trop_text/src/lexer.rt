@@ -138,7 +138,8 @@ impl<'a> Lexer<'a> {
     /// last byte. Lines count from 1.
     pub fn line_end(&self, line: u32) -> u32
         ensures value { result ≡ lines.end_column (source self.now) line }
-        ensures end { 1 ≤ line → line ≤ lines.line_count (source self.now) → lines.EndsLine (source self.now) line result }
+        ensures end { 1 ≤ line → line ≤ lines.line_count (source self.now) →
+            lines.EndsLine (source self.now) line result }
     {
         lines::line_end(self.source, line)
     }

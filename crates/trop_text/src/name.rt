@@ -41,7 +41,8 @@ pub fn is_name(text: &[u8]) -> bool
 
 /// The text as a name, where it is one.
 pub fn as_name(text: &[u8]) -> Option<&str>
-    ensures { MatchOption result (spec.is_name text.now ≡ false) (λ name. (spec.is_name text.now ≡ true) × (name.now ≡ text.now)) }
+    ensures { MatchOption result (spec.is_name text.now ≡ false)
+        (λ name. (spec.is_name text.now ≡ true) × (name.now ≡ text.now)) }
 {
     if is_name(text) {
         str::from_utf8(text).ok()

@@ -15,7 +15,8 @@ by_bool : (b : Bool) → (b ≡ true) ⊎ (b ≡ false)
 by_bool true = inl refl
 by_bool false = inr refl
 
-module _ {V : Type 0} {R : Semiring V} (laws : SemiringLaws R) (same : V → V → Bool) (decides : (a b : V) → (same a b ≡ true) ↔ (a ≡ b)) where
+module _ {V : Type 0} {R : Semiring V} (laws : SemiringLaws R) (same : V → V → Bool)
+    (decides : (a b : V) → (same a b ≡ true) ↔ (a ≡ b)) where
   not_same : (a b : V) → a ≢ b → same a b ≡ false
   not_same a b d = ⊎_elim (λ e. absurd (d ((decides a b).0 e))) (λ e. e) (by_bool (same a b))
 
@@ -39,7 +40,8 @@ module _ {V : Type 0} {R : Semiring V} (laws : SemiringLaws R) (same : V → V �
     is_above : Le R b a → a ≢ b → Rank a b
 
   rank : (a b : V) → Rank a b
-  rank a b = ⊎_elim is_same (λ d. ⊎_elim (λ h. is_below h d) (λ h. is_above h d) (le_total laws a b)) (laws.discrete a b)
+  rank a b = ⊎_elim is_same (λ d. ⊎_elim (λ h. is_below h d) (λ h. is_above h d) (le_total laws a b))
+      (laws.discrete a b)
 
   pub from_Less : (a b : V) → compare same R a b ≡ Less → Le R a b × (a ≢ b)
   from_Less a b e = go (rank a b)
@@ -66,11 +68,14 @@ module _ {V : Type 0} {R : Semiring V} (laws : SemiringLaws R) (same : V → V �
     where
       flip : (x y : V) → Rank x y → compare same R x y ≡ ordering_reverse (compare same R y x)
       flip x y (is_same s) = compare-Equal x y s ∙ ap ordering_reverse (sym (compare-Equal y x (sym s)))
-      flip x y (is_below h d) = compare-Less x y h d ∙ ap ordering_reverse (sym (compare-Greater y x h (λ e. d (sym e))))
-      flip x y (is_above h d) = compare-Greater x y h d ∙ ap ordering_reverse (sym (compare-Less y x h (λ e. d (sym e))))
+      flip x y (is_below h d) = compare-Less x y h d
+          ∙ ap ordering_reverse (sym (compare-Greater y x h (λ e. d (sym e))))
+      flip x y (is_above h d) = compare-Greater x y h d
+          ∙ ap ordering_reverse (sym (compare-Less y x h (λ e. d (sym e))))
 
       chain : (x y z : V) → Le R x y × (x ≢ y) → Le R y z × (y ≢ z) → compare same R x z ≡ Less
-      chain x y z p q = compare-Less x z (le_trans laws x y z p.0 q.0) (λ e. p.1 (le_antisym laws x y p.0 (subst (λ v. Le R y v) (sym e) q.0)))
+      chain x y z p q = compare-Less x z (le_trans laws x y z p.0 q.0)
+          (λ e. p.1 (le_antisym laws x y p.0 (subst (λ v. Le R y v) (sym e) q.0)))
 
   pub compare_rows_total : IsTotalOrder (compare_rows same R)
   compare_rows_total = lists_total compare_total

@@ -1,4 +1,8 @@
 -- The laws of the max-plus semiring.
+-- Index: sum_assoc, sum_comm, zero_sum, sum_opposite, abs_sum, abs_opposite, same_or_not, some_selective, times_assoc,
+-- times_comm, one_neutral, invertible, size_times, size_inverse, some_or_not, discrete, max_laws, none, both_none,
+-- none_some, some_none, both_some, decides_same, same_is_equivalence, same_is_symm_trans, max_number_laws,
+-- both_of_some, max_numeric_laws.
 use Rattle.std.proofs.Common.{◌≡◌, ◌≢◌, ◌⊎◌, ◌≤◌, ◌+◌, max, Bool, true, false, Option, Some, None, inl, inr, sym, ap, ◌∙◌, refl, arith}
 use Rattle.std.specs.Prelude.{ℤ, pos, negsuc, ◌+ℤ◌, neg_ℤ, nat_abs, ◌≤ℤ◌, ◌↔◌}
 use Rattle.std.specs.Ordering.{int_eq}
@@ -182,11 +186,13 @@ from_true false false f g = refl
 pub same_is_equivalence : IsEquivalence same_element
 same_is_equivalence = record {
   refl = same_itself;
-  symm = λ x y. from_true _ _ (λ e. (decides_same y x).1 (sym ((decides_same x y).0 e))) (λ e. (decides_same x y).1 (sym ((decides_same y x).0 e)));
+  symm = λ x y. from_true _ _ (λ e. (decides_same y x).1 (sym ((decides_same x y).0 e)))
+      (λ e. (decides_same x y).1 (sym ((decides_same y x).0 e)));
   congr = λ x y z e. ap (λ w. same_element w z) ((decides_same x y).0 e);
 }
 
-pub same_is_symm_trans : (x y z : Option ℤ) → same_element x y ≡ true → same_element y z ≡ true → same_element x z ≡ true
+pub same_is_symm_trans : (x y z : Option ℤ) → same_element x y ≡ true → same_element y z ≡ true →
+    same_element x z ≡ true
 same_is_symm_trans x y z p q = (decides_same x z).1 ((decides_same x y).0 p ∙ (decides_same y z).0 q)
 
 pub max_number_laws : NumberLaws max_ring max_numbering

@@ -1,4 +1,6 @@
 -- The laws of the min-plus semiring.
+-- Index: min_laws, min_numeric_laws, min_number_laws, opposite-opposite, opposite-max_plus, opposite-sum_of,
+-- magnitude-opposite, same_element-opposite, Le-opposite, opposite_finite.
 use Rattle.std.proofs.Common.{◌≡◌, ◌≢◌, ◌⊎◌, ◌≤◌, max, true, Option, Some, None, inl, inr, sym, ap, ◌∙◌, refl, arith}
 use Rattle.std.specs.Prelude.{ℤ, pos, ◌+ℤ◌, nat_abs, ◌≤ℤ◌, ◌↔◌, neg_ℤ}
 use Rattle.std.proofs.lemmas.Int.{ints}

@@ -23,15 +23,18 @@ module _ {V : Type 0} {R : Semiring V} (laws : SemiringLaws R) where
   dot-scaled [] x c = sym (times_zero laws c)
   dot-scaled (d ∷ a) [] c = sym (times_zero laws c)
   dot-scaled (d ∷ a) (b ∷ x) c =
-      ap₂ R.plus (sym (laws.times_assoc d c b) ∙ ap (λ v. R.times v b) (laws.times_comm d c) ∙ laws.times_assoc c d b) (dot-scaled a x c)
+      ap₂ R.plus (sym (laws.times_assoc d c b) ∙ ap (λ v. R.times v b) (laws.times_comm d c) ∙ laws.times_assoc c d b)
+      (dot-scaled a x c)
       ∙ sym (laws.distributes c (R.times d b) (dot R a x))
 
   -- solutions are closed under sums and multiples
-  pub HoldsOf-joined : (a b x y : List V) → length x ≡ length y → HoldsOf R a b x → HoldsOf R a b y → HoldsOf R a b (joined R x y)
+  pub HoldsOf-joined : (a b x y : List V) → length x ≡ length y → HoldsOf R a b x → HoldsOf R a b y →
+      HoldsOf R a b (joined R x y)
   HoldsOf-joined a b x y e p q =
       subst (λ v. Le R v (dot R b (joined R x y))) (sym (dot-joined a x y e))
       (subst (λ v. Le R (R.plus (dot R a x) (dot R a y)) v) (sym (dot-joined b x y e))
-      (plus-least laws _ _ _ (le_trans laws _ _ _ p (le-plus_left laws _ _)) (le_trans laws _ _ _ q (le-plus_right laws _ _))))
+      (plus-least laws _ _ _ (le_trans laws _ _ _ p (le-plus_left laws _ _))
+      (le_trans laws _ _ _ q (le-plus_right laws _ _))))
 
   pub HoldsOf-scaled : (a b x : List V) (c : V) → HoldsOf R a b x → HoldsOf R a b (scaled R c x)
   HoldsOf-scaled a b x c p =
@@ -39,16 +42,23 @@ module _ {V : Type 0} {R : Semiring V} (laws : SemiringLaws R) where
       (subst (λ v. Le R (R.times c (dot R a x)) v) (sym (dot-scaled b x c)) (times_mono laws c _ _ p))
 
   -- the mixed row is a solution: both products with b reach (a.w)(b.v)
-  pub HoldsOf-mixed : (a b v w : List V) → length v ≡ length w → HoldsOf R a b v → Le R (dot R b w) (dot R a w) → HoldsOf R a b (mixed R a b v w)
+  pub HoldsOf-mixed : (a b v w : List V) → length v ≡ length w → HoldsOf R a b v → Le R (dot R b w) (dot R a w) →
+      HoldsOf R a b (mixed R a b v w)
   HoldsOf-mixed a b v w e p q =
       let av = dot R a v in let bv = dot R b v in let aw = dot R a w in let bw = dot R b w in
-      let same : length (scaled R (dot R a w) v) ≡ length (scaled R (dot R b v) w) = length-map v (R.times (dot R a w)) ∙ e ∙ sym (length-map w (R.times (dot R b v))) in
-      let left : dot R a (mixed R a b v w) ≡ R.plus (R.times (dot R a w) (dot R a v)) (R.times (dot R b v) (dot R a w)) =
-      dot-joined a (scaled R (dot R a w) v) (scaled R (dot R b v) w) same ∙ ap₂ R.plus (dot-scaled a v (dot R a w)) (dot-scaled a w (dot R b v)) in
-      let right : dot R b (mixed R a b v w) ≡ R.plus (R.times (dot R a w) (dot R b v)) (R.times (dot R b v) (dot R b w)) =
-      dot-joined b (scaled R (dot R a w) v) (scaled R (dot R b v) w) same ∙ ap₂ R.plus (dot-scaled b v (dot R a w)) (dot-scaled b w (dot R b v)) in
+      let same : length (scaled R (dot R a w) v) ≡ length (scaled R (dot R b v) w) =
+      length-map v (R.times (dot R a w)) ∙ e ∙ sym (length-map w (R.times (dot R b v))) in
+      let left : dot R a (mixed R a b v w) ≡ R.plus (R.times (dot R a w) (dot R a v))
+      (R.times (dot R b v) (dot R a w)) =
+      dot-joined a (scaled R (dot R a w) v) (scaled R (dot R b v) w) same ∙ ap₂ R.plus (dot-scaled a v (dot R a w))
+      (dot-scaled a w (dot R b v)) in
+      let right : dot R b (mixed R a b v w) ≡ R.plus (R.times (dot R a w) (dot R b v))
+      (R.times (dot R b v) (dot R b w)) =
+      dot-joined b (scaled R (dot R a w) v) (scaled R (dot R b v) w) same ∙ ap₂ R.plus (dot-scaled b v (dot R a w))
+      (dot-scaled b w (dot R b v)) in
       subst (λ t. Le R t (dot R b (mixed R a b v w))) (sym left)
       (subst (λ t. Le R (R.plus (R.times (dot R a w) (dot R a v)) (R.times (dot R b v) (dot R a w))) t) (sym right)
       (plus-least laws _ _ _
       (le_trans laws _ _ _ (times_mono laws (dot R a w) _ _ p) (le-plus_left laws _ _))
-      (le_trans laws _ _ _ (subst (λ t. Le R t (R.times (dot R a w) (dot R b v))) (laws.times_comm (dot R a w) (dot R b v)) (le_refl laws _)) (le-plus_left laws _ _))))
+      (le_trans laws _ _ _ (subst (λ t. Le R t (R.times (dot R a w) (dot R b v)))
+      (laws.times_comm (dot R a w) (dot R b v)) (le_refl laws _)) (le-plus_left laws _ _))))

@@ -1,4 +1,6 @@
 -- The exact list of the elementary step: what stands in it, how it grows, and that it generates the guarded cone.
+-- Index: Contains-chosen, from_chosen, All-chosen, all_chosen, length_chosen, chosen_push, chosen_skip, mixed_more,
+-- IsFresh, from_mixed, Contains-mixed, wide_step_list, step_list_is_guard.
 use Rattle.std.proofs.Common.{◌≡◌, ◌≢◌, ◌≤◌, ◌++◌, ℕ, List, [], ◌∷◌, length, inl, inr, ⊎_elim, sym, ap, ◌∙◌, refl, arith, subst, get_or, append_assoc}
 use Rattle.std.specs.Prelude.{All, Contains, ◌↔◌}
 use Rattle.std.specs.List.{AllZip}
@@ -45,7 +47,8 @@ module _ {X : Type 0} (P : X → Type 0) where
       h
 
   pub All-chosen : (Q : X → Type 0) (xs ys : List X) → AreChosen P xs ys → All Q xs → All Q ys
-  All-chosen Q xs ys h a k d l = All-contains Q xs (get_or ys k d) a (from_chosen xs ys h (get_or ys k d) (Contains-get_or ys k d l)).0
+  All-chosen Q xs ys h a k d l = All-contains Q xs (get_or ys k d) a
+      (from_chosen xs ys h (get_or ys k d) (Contains-get_or ys k d l)).0
 
   pub all_chosen : (xs ys : List X) → AreChosen P xs ys → All P ys
   all_chosen xs ys h k d l = (from_chosen xs ys h (get_or ys k d) (Contains-get_or ys k d l)).1
@@ -75,7 +78,8 @@ module _ {X : Type 0} (P : X → Type 0) where
 
 module _ {V : Type 0} (R : Semiring V) (p : Inequality V) (dropped : List (List V)) where
   -- the new rows of one more kept row
-  pub mixed_more : (kept fresh : List (List V)) (v : List V) (front : List (List V)) → AreMixed R p dropped kept fresh → AreMixedOf R p dropped v front → AreMixed R p dropped (kept ++ v ∷ []) (fresh ++ front)
+  pub mixed_more : (kept fresh : List (List V)) (v : List V) (front : List (List V)) → AreMixed R p dropped kept fresh →
+      AreMixedOf R p dropped v front → AreMixed R p dropped (kept ++ v ∷ []) (fresh ++ front)
   mixed_more [] fresh v front h m = (front, [], ap (λ l. l ++ front) h ∙ sym (append_nil front), m, refl)
     where
       append_nil : (xs : List (List V)) → xs ++ [] ≡ xs
@@ -88,29 +92,38 @@ module _ {V : Type 0} (R : Semiring V) (p : Inequality V) (dropped : List (List 
   abbrev pub IsFresh : List V → List V → List V → Type 0
   IsFresh v w x = (dot R p.right v ≢ R.zero) × Normalises R (mixed R p.left p.right v w) x
 
-  from_mixed_of : (v : List V) (front : List (List V)) → AreMixedOf R p dropped v front → (x : List V) → Contains front x → (w : List V) × Contains dropped w × IsFresh v w x
+  from_mixed_of : (v : List V) (front : List (List V)) → AreMixedOf R p dropped v front → (x : List V) →
+      Contains front x → (w : List V) × Contains dropped w × IsFresh v w x
   from_mixed_of v front h x c = ⊎_elim
       (λ z. absurd (Contains-none x (subst (λ l. Contains l x) z.1 c)))
-      (λ f. let r = back_in_zip (λ w y. Normalises R (mixed R p.left p.right v w) y) dropped front f.1 x c in (r.0, r.1, (f.0, r.2)))
+      (λ f. let r = back_in_zip (λ w y. Normalises R (mixed R p.left p.right v w) y) dropped front f.1 x c in
+      (r.0, r.1, (f.0, r.2)))
       h
 
-  pub from_mixed : (kept fresh : List (List V)) → AreMixed R p dropped kept fresh → (x : List V) → Contains fresh x → (v : List V) × (w : List V) × Contains kept v × Contains dropped w × IsFresh v w x
+  pub from_mixed : (kept fresh : List (List V)) → AreMixed R p dropped kept fresh → (x : List V) → Contains fresh x →
+      (v : List V) × (w : List V) × Contains kept v × Contains dropped w × IsFresh v w x
   from_mixed [] fresh h x c = absurd (Contains-none x (subst (λ l. Contains l x) h c))
   from_mixed (u ∷ kept) fresh h x c = ⊎_elim
       (λ a. let r = from_mixed_of u h.0 h.3 x a in (u, r.0, (0, omega arith, refl), r.1, r.2))
       (λ b. let r = from_mixed kept h.1 h.4 x b in (r.0, r.1, Contains-cons u kept r.0 r.2, r.3, r.4))
       (Contains-append_cases h.0 h.1 x (subst (λ l. Contains l x) h.2 c))
 
-  pub Contains-mixed : (kept fresh : List (List V)) → AreMixed R p dropped kept fresh → (v w : List V) → Contains kept v → Contains dropped w → dot R p.right v ≢ R.zero → (x : List V) × Contains fresh x × Normalises R (mixed R p.left p.right v w) x
+  pub Contains-mixed : (kept fresh : List (List V)) → AreMixed R p dropped kept fresh → (v w : List V) →
+      Contains kept v → Contains dropped w → dot R p.right v ≢ R.zero →
+      (x : List V) × Contains fresh x × Normalises R (mixed R p.left p.right v w) x
   Contains-mixed [] fresh h v w c d f = absurd (Contains-none v c)
   Contains-mixed (u ∷ kept) fresh h v w c d f = ⊎_elim
       (λ e. ⊎_elim
       (λ z. absurd (f (ap (dot R p.right) (sym e) ∙ z.0)))
       (λ q.
-      let r = there_in_zip (λ w y. Normalises R (mixed R p.left p.right u w) y) dropped h.0 q.1 w d in
-      (r.0, subst (λ l. Contains l r.0) (sym h.2) (Contains-append_left h.0 h.1 r.0 r.1), subst (λ y. Normalises R (mixed R p.left p.right y w) r.0) e r.2))
+      let r = there_in_zip (λ w y. Normalises R (mixed R p.left p.right u w) y) dropped h.0 q.1 w d in (
+        r.0,
+        subst (λ l. Contains l r.0) (sym h.2) (Contains-append_left h.0 h.1 r.0 r.1),
+        subst (λ y. Normalises R (mixed R p.left p.right y w) r.0) e r.2,
+      ))
       h.3)
-      (λ t. let r = Contains-mixed kept h.1 h.4 v w t d f in (r.0, subst (λ l. Contains l r.0) (sym h.2) (Contains-append_right h.0 h.1 r.0 r.1), r.2))
+      (λ t. let r = Contains-mixed kept h.1 h.4 v w t d f in
+      (r.0, subst (λ l. Contains l r.0) (sym h.2) (Contains-append_right h.0 h.1 r.0 r.1), r.2))
       (Contains-cons_cases u kept v c)
 
 module _ {V : Type 0} {R : Semiring V} (laws : SemiringLaws R) (n : ℕ) where
@@ -119,7 +132,8 @@ module _ {V : Type 0} {R : Semiring V} (laws : SemiringLaws R) (n : ℕ) where
       ap length m.multiple ∙ length-map (mixed R a b v w) (R.times m.factor)
       ∙ length-joined R _ _ n (length-map v (R.times (dot R a w)) ∙ lv) (length-map w (R.times (dot R b v)) ∙ lw)
 
-  module _ (p : Inequality V) (rows others : List (List V)) (inside : IsIn n p) (wide : AreWide n rows) (s : IsStepList R p rows others) where
+  module _ (p : Inequality V) (rows others : List (List V)) (inside : IsIn n p) (wide : AreWide n rows)
+      (s : IsStepList R p rows others) where
     at_row : (x : List V) → length x ≡ n → HoldsOf R p.left p.right x ↔ IsTrueAt R p x
     at_row x l = truth laws p.left p.right x (inside.left ∙ sym l) (inside.right ∙ sym l)
 
@@ -138,8 +152,10 @@ module _ {V : Type 0} {R : Semiring V} (laws : SemiringLaws R) (n : ℕ) where
         (λ c. length_row _ (in_kept _ c).0)
         (λ c.
         let r = from_mixed R p s.dropped s.kept s.fresh s.are_fresh (get_or others k d) c in
-        length_of_mixed p.left p.right r.0 r.1 (get_or others k d) (length_row r.0 (in_kept r.0 r.2).0) (length_row r.1 (in_dropped r.1 r.3).0) r.4.1)
-        (Contains-append_cases s.kept s.fresh (get_or others k d) (subst (λ v. Contains v (get_or others k d)) s.in_order (Contains-get_or others k d l)))
+        length_of_mixed p.left p.right r.0 r.1 (get_or others k d) (length_row r.0 (in_kept r.0 r.2).0)
+        (length_row r.1 (in_dropped r.1 r.3).0) r.4.1)
+        (Contains-append_cases s.kept s.fresh (get_or others k d)
+        (subst (λ v. Contains v (get_or others k d)) s.in_order (Contains-get_or others k d l)))
 
     raw : Stepped laws n p.left p.right rows
     raw = stepped laws n p.left p.right rows
@@ -147,24 +163,32 @@ module _ {V : Type 0} {R : Semiring V} (laws : SemiringLaws R) (n : ℕ) where
     wide_raw : AreWide n raw.others
     wide_raw k d l = ⊎_elim
         (λ q. length_row _ q.0)
-        (λ q. ap length q.7 ∙ length-joined R _ _ n (length-map q.0 (R.times (dot R p.left q.1)) ∙ length_row q.0 q.2) (length-map q.1 (R.times (dot R p.right q.0)) ∙ length_row q.1 q.3))
+        (λ q. ap length q.7 ∙ length-joined R _ _ n (length-map q.0 (R.times (dot R p.left q.1)) ∙ length_row q.0 q.2)
+        (length-map q.1 (R.times (dot R p.right q.0)) ∙ length_row q.1 q.3))
         (raw.parents (get_or raw.others k d) (Contains-get_or raw.others k d l))
 
     there : (x : List V) → Contains raw.others x → IsCombination R n others x
     there x c = ⊎_elim
         (λ q. IsCombination-contained laws n others x wide_step_list
-        (subst (λ v. Contains v x) (sym s.in_order) (Contains-append_left s.kept s.fresh x (Contains-chosen (IsTrueAt R p) rows s.kept s.are_kept x q.0 ((at_row x (length_row x q.0)).0 q.1)))))
+        (subst (λ v. Contains v x) (sym s.in_order)
+        (Contains-append_left s.kept s.fresh x
+        (Contains-chosen (IsTrueAt R p) rows s.kept s.are_kept x q.0 ((at_row x (length_row x q.0)).0 q.1)))))
         (λ q.
-        let kept_v = Contains-chosen (IsTrueAt R p) rows s.kept s.are_kept q.0 q.2 ((at_row q.0 (length_row q.0 q.2)).0 q.4) in
-        let dropped_w = Contains-chosen (λ w. IsTrueAt R p w → ⊥) rows s.dropped s.are_dropped q.1 q.3 (λ t. q.6 ((at_row q.1 (length_row q.1 q.3)).1 t)) in
+        let kept_v = Contains-chosen (IsTrueAt R p) rows s.kept s.are_kept q.0 q.2
+        ((at_row q.0 (length_row q.0 q.2)).0 q.4) in
+        let dropped_w = Contains-chosen (λ w. IsTrueAt R p w → ⊥) rows s.dropped s.are_dropped q.1 q.3
+        (λ t. q.6 ((at_row q.1 (length_row q.1 q.3)).1 t)) in
         let r = Contains-mixed R p s.dropped s.kept s.fresh s.are_fresh q.0 q.1 kept_v dropped_w q.5 in
         subst (IsCombination R n others) (undo_normal laws (mixed R p.left p.right q.0 q.1) r.0 r.2 ∙ sym q.7)
-        (IsCombination-scaled laws n others (R.inverse r.2.factor) r.0 (IsCombination-contained laws n others r.0 wide_step_list (subst (λ v. Contains v r.0) (sym s.in_order) (Contains-append_right s.kept s.fresh r.0 r.1)))))
+        (IsCombination-scaled laws n others (R.inverse r.2.factor) r.0
+        (IsCombination-contained laws n others r.0 wide_step_list
+        (subst (λ v. Contains v r.0) (sym s.in_order) (Contains-append_right s.kept s.fresh r.0 r.1)))))
         (raw.parents x c)
 
     back : (x : List V) → Contains others x → IsCombination R n raw.others x
     back x c = ⊎_elim
-        (λ k. let r = in_kept x k in IsCombination-contained laws n raw.others x wide_raw (raw.step.kept x r.0 ((at_row x (length_row x r.0)).1 r.1)))
+        (λ k. let r = in_kept x k in IsCombination-contained laws n raw.others x wide_raw
+        (raw.step.kept x r.0 ((at_row x (length_row x r.0)).1 r.1)))
         (λ f.
         let r = from_mixed R p s.dropped s.kept s.fresh s.are_fresh x f in
         let v = in_kept r.0 r.2 in
@@ -172,7 +196,8 @@ module _ {V : Type 0} {R : Semiring V} (laws : SemiringLaws R) (n : ℕ) where
         subst (IsCombination R n raw.others) (sym r.4.1.multiple)
         (IsCombination-scaled laws n raw.others r.4.1.factor (mixed R p.left p.right r.0 r.1)
         (IsCombination-contained laws n raw.others (mixed R p.left p.right r.0 r.1) wide_raw
-        (raw.step.mixes r.0 r.1 v.0 w.0 ((at_row r.0 (length_row r.0 v.0)).1 v.1) r.4.0 (λ t. w.1 ((at_row r.1 (length_row r.1 w.0)).0 t))))))
+        (raw.step.mixes r.0 r.1 v.0 w.0 ((at_row r.0 (length_row r.0 v.0)).1 v.1) r.4.0
+        (λ t. w.1 ((at_row r.1 (length_row r.1 w.0)).0 t))))))
         (Contains-append_cases s.kept s.fresh x (subst (λ v. Contains v x) s.in_order c))
 
     same : SameCone R n raw.others others

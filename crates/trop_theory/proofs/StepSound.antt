@@ -25,20 +25,26 @@ module _ {V : Type 0} {R : Semiring V} (laws : SemiringLaws R) (n : ℕ) where
   HoldsOf-bottom a b = subst (λ t. Le R t (dot R b (bottom R n))) (sym (dot-bottom a n)) (laws.zero_neutral _)
 
   -- an inequality that holds of each row holds of each combination
-  HoldsOf-combined : (a b : List V) (cs : List V) (rows : List (List V)) → All (λ g. length g ≡ n) rows → All (HoldsOf R a b) rows → HoldsOf R a b (combined R n cs rows)
+  HoldsOf-combined : (a b : List V) (cs : List V) (rows : List (List V)) → All (λ g. length g ≡ n) rows →
+      All (HoldsOf R a b) rows → HoldsOf R a b (combined R n cs rows)
   HoldsOf-combined a b [] rows w h = HoldsOf-bottom a b
   HoldsOf-combined a b (c ∷ cs) [] w h = HoldsOf-bottom a b
   HoldsOf-combined a b (c ∷ cs) (g ∷ rows) w h =
       HoldsOf-joined laws a b (scaled R c g) (combined R n cs rows)
-      (length-map g (R.times c) ∙ All-head (λ g. length g ≡ n) g rows w ∙ sym (length-combined laws n cs rows (All-tail (λ g. length g ≡ n) g rows w)))
+      (length-map g (R.times c) ∙ All-head (λ g. length g ≡ n) g rows w
+      ∙ sym (length-combined laws n cs rows (All-tail (λ g. length g ≡ n) g rows w)))
       (HoldsOf-scaled laws a b g c (All-head (HoldsOf R a b) g rows h))
       (HoldsOf-combined a b cs rows (All-tail (λ g. length g ≡ n) g rows w) (All-tail (HoldsOf R a b) g rows h))
 
-  pub step_is_guard : (a b : List V) (rows others : List (List V)) → All (λ g. length g ≡ n) rows → All (λ g. length g ≡ n) others → IsStep R a b rows others → (x : List V) → IsCombination R n others x ↔ (IsCombination R n rows x × HoldsOf R a b x)
+  pub step_is_guard : (a b : List V) (rows others : List (List V)) → All (λ g. length g ≡ n) rows →
+      All (λ g. length g ≡ n) others → IsStep R a b rows others → (x : List V) →
+      IsCombination R n others x ↔ (IsCombination R n rows x × HoldsOf R a b x)
   step_is_guard a b rows others w v step x = (
     λ h. (
-      IsCombination-least laws n others rows x w (λ k d l. inside (get_or others k d) (k, l, get_or_default others k (get_or others k d) d l)) h,
-      subst (HoldsOf R a b) (sym h.is_sum) (HoldsOf-combined a b h.coefficients others v (λ k d l. holds (get_or others k d) (k, l, get_or_default others k (get_or others k d) d l))),
+      IsCombination-least laws n others rows x w (λ k d l. inside (get_or others k d)
+          (k, l, get_or_default others k (get_or others k d) d l)) h,
+      subst (HoldsOf R a b) (sym h.is_sum) (HoldsOf-combined a b h.coefficients others v
+          (λ k d l. holds (get_or others k d) (k, l, get_or_default others k (get_or others k d) d l))),
     ),
     λ g. complete laws n a b rows others w v step x g.0 g.1,
   )
@@ -57,6 +63,7 @@ module _ {V : Type 0} {R : Semiring V} (laws : SemiringLaws R) (n : ℕ) where
       holds : (y : List V) → Contains others y → HoldsOf R a b y
       holds y h = ⊎_elim
           (λ p. p.1)
-          (λ q. subst (HoldsOf R a b) (sym q.6) (HoldsOf-mixed laws a b q.0 q.1 (lengths q.0 q.2 ∙ sym (lengths q.1 q.3)) q.4
+          (λ q. subst (HoldsOf R a b) (sym q.6) (HoldsOf-mixed laws a b q.0 q.1
+          (lengths q.0 q.2 ∙ sym (lengths q.1 q.3)) q.4
           (⊎_elim (λ l. absurd (q.5 l)) (λ l. l) (le_total laws (dot R a q.1) (dot R b q.1)))))
           (step.only y h)

@@ -29,21 +29,25 @@ module _ {V : Type 0} {R : Semiring V} (laws : SemiringLaws R) where
   rest_ascending : (a : List V) (xs : List (List V)) → AllPairs (RowBelow R) (a ∷ xs) → AllPairs (RowBelow R) xs
   rest_ascending a xs h i j d lt l = h (suc i) (suc j) d (omega arith) (omega arith)
 
-  same_head : (a b : List V) (xs ys : List (List V)) → AllPairs (RowBelow R) (a ∷ xs) → AllPairs (RowBelow R) (b ∷ ys) → Contains (b ∷ ys) a → Contains (a ∷ xs) b → a ≡ b
+  same_head : (a b : List V) (xs ys : List (List V)) → AllPairs (RowBelow R) (a ∷ xs) → AllPairs (RowBelow R) (b ∷ ys) →
+      Contains (b ∷ ys) a → Contains (a ∷ xs) b → a ≡ b
   same_head a b xs ys ax by ca cb = ⊎_elim
       (λ e. sym e)
-      (λ p. ⊎_elim (λ e. e) (λ q. absurd (row_below_both a b (above_head a b xs ax q) (above_head b a ys by p))) (Contains-cons_cases a xs b cb))
+      (λ p. ⊎_elim (λ e. e) (λ q. absurd (row_below_both a b (above_head a b xs ax q) (above_head b a ys by p)))
+      (Contains-cons_cases a xs b cb))
       (Contains-cons_cases b ys a ca)
 
   -- an element behind the head of one list stands behind the same head of the other
-  behind : (a b x : List V) (xs ys : List (List V)) → AllPairs (RowBelow R) (a ∷ xs) → a ≡ b → Contains xs x → Contains (b ∷ ys) x → Contains ys x
+  behind : (a b x : List V) (xs ys : List (List V)) → AllPairs (RowBelow R) (a ∷ xs) → a ≡ b → Contains xs x →
+      Contains (b ∷ ys) x → Contains ys x
   behind a b x xs ys ax e c h = ⊎_elim
       (λ s. absurd (row_below_itself R x (subst (λ v. RowBelow R v x) (e ∙ s) (above_head a x xs ax c))))
       (λ t. t)
       (Contains-cons_cases b ys x h)
 
   -- ascending lists with the same elements
-  pub same_ascending : (xs ys : List (List V)) → AllPairs (RowBelow R) xs → AllPairs (RowBelow R) ys → ((x : List V) → Contains xs x → Contains ys x) → ((x : List V) → Contains ys x → Contains xs x) → xs ≡ ys
+  pub same_ascending : (xs ys : List (List V)) → AllPairs (RowBelow R) xs → AllPairs (RowBelow R) ys →
+      ((x : List V) → Contains xs x → Contains ys x) → ((x : List V) → Contains ys x → Contains xs x) → xs ≡ ys
   same_ascending [] [] ax ay there back = refl
   same_ascending [] (b ∷ ys) ax ay there back = absurd (Contains-none b (back b (0, omega arith, refl)))
   same_ascending (a ∷ xs) [] ax ay there back = absurd (Contains-none a (there a (0, omega arith, refl)))
@@ -54,13 +58,16 @@ module _ {V : Type 0} {R : Semiring V} (laws : SemiringLaws R) where
       (λ x c. behind b a x ys xs ay (sym e) c (back x (suc c.0, omega (arith, c.1), c.2))))
 
   -- lists that are canonical for the same vectors
-  pub IsCanonical-unique : (cone other : List V → Type 0) (xs ys : List (List V)) → ((x : List V) → cone x ↔ other x) → IsCanonical R cone xs → IsCanonical R other ys → xs ≡ ys
+  pub IsCanonical-unique : (cone other : List V → Type 0) (xs ys : List (List V)) → ((x : List V) → cone x ↔ other x) →
+      IsCanonical R cone xs → IsCanonical R other ys → xs ≡ ys
   IsCanonical-unique cone other xs ys same hx hy = same_ascending xs ys hx.ascending hy.ascending
       (λ x c. hy.complete x (at xs x hx.normal c) (IsExtreme-same cone other same x (member cone xs x hx c)))
-      (λ x c. hx.complete x (at ys x hy.normal c) (IsExtreme-same other cone (λ v. ((same v).1, (same v).0)) x (member other ys x hy c)))
+      (λ x c. hx.complete x (at ys x hy.normal c) (IsExtreme-same other cone (λ v. ((same v).1, (same v).0)) x
+      (member other ys x hy c)))
     where
       at : (rows : List (List V)) (x : List V) → All (IsNormal R) rows → Contains rows x → IsNormal R x
       at rows x h c = All-contains (IsNormal R) rows x h c
 
-      member : (cone : List V → Type 0) (rows : List (List V)) (x : List V) → IsCanonical R cone rows → Contains rows x → IsExtreme R cone x
+      member : (cone : List V → Type 0) (rows : List (List V)) (x : List V) → IsCanonical R cone rows →
+          Contains rows x → IsExtreme R cone x
       member cone rows x h c = All-contains (IsExtreme R cone) rows x h.extreme c

@@ -22,4 +22,5 @@ pub record SameCone {V : Type 0} (R : Semiring V) (n : ℕ) (rows others : List 
 
 -- each of the first k rows is no combination of the others
 abbrev pub AreIndependent : {V : Type 0} → Semiring V → ℕ → List (List V) → ℕ → Type 0
-AreIndependent {V} R n rows k = (j : ℕ) (d : List V) → j < k → IsCombination R n (remove rows j) (slice_index_or rows j d) → ⊥
+AreIndependent {V} R n rows k = (j : ℕ) (d : List V) → j < k →
+    IsCombination R n (remove rows j) (slice_index_or rows j d) → ⊥

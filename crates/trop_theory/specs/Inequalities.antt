@@ -10,7 +10,8 @@ pub record Inequality (V : Type 0) : Type 0 where
 
 -- It is true at x where each term of the left is at most some term of the right.
 abbrev pub IsTrueAt : {V : Type 0} → Semiring V → Inequality V → List V → Type 0
-IsTrueAt R p x = (i : ℕ) → i < length x → (j : ℕ) × (j < length x) × Le R (R.times (entry R p.left i) (entry R x i)) (R.times (entry R p.right j) (entry R x j))
+IsTrueAt R p x = (i : ℕ) → i < length x → (j : ℕ) × (j < length x) × Le R (R.times (entry R p.left i) (entry R x i))
+    (R.times (entry R p.right j) (entry R x j))
 
 -- x is a solution of the system in n coordinates
 pub record Solves {V : Type 0} (R : Semiring V) (n : ℕ) (system : List (Inequality V)) (x : List V) : Type 0 where

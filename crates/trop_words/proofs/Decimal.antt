@@ -6,7 +6,8 @@ use Rattle.std.specs.Str.Parse.{digits_value}
 use Rattle.trop_words.specs.Words.{key_word}
 
 -- what the text of a number parses as
-pub parsed : {E : Type 0} (n : ℕ) (text : List ℕ) (r : Result ℕ E) → n < 2 ^ 32 → text ≡ decimal n → ParsesUnsigned 32 10 text r → r ≡ Ok n
+pub parsed : {E : Type 0} (n : ℕ) (text : List ℕ) (r : Result ℕ E) → n < 2 ^ 32 → text ≡ decimal n →
+    ParsesUnsigned 32 10 text r → r ≡ Ok n
 parsed n text r small e p = parse-decimal 32 n text r small (omega arith) e p
 
 -- a key is written once
@@ -21,7 +22,9 @@ decimal_same m n p q e = sym (decimal_value m (omega arith)) ∙ ap (digits_valu
     decimal_value k small = (decimal_is_IsNumeral k small).1
 
 -- no number in the range is written so, where the number behind the key is out of range
-pub none_in_range : (least most number : ℕ) (word key text : List ℕ) → word ≡ key ++ text → number < 2 ^ 32 → most < 2 ^ 32 → text ≡ decimal number → (least ≤ number → number ≤ most → ⊥) → (n : ℕ) → least ≤ n → n ≤ most → word ≢ key_word key n
+pub none_in_range : (least most number : ℕ) (word key text : List ℕ) → word ≡ key ++ text → number < 2 ^ 32 →
+    most < 2 ^ 32 → text ≡ decimal number → (least ≤ number → number ≤ most → ⊥) → (n : ℕ) → least ≤ n → n ≤ most →
+    word ≢ key_word key n
 none_in_range least most number word key text w small high t out n low up e =
     let same : text ≡ decimal n = key_cancel key text (decimal n) (sym w ∙ e) in
     let value : number ≡ n = decimal_same number n small (omega arith) (sym t ∙ same) in

@@ -33,12 +33,15 @@ IsSpelled words (Forget var) = IsName var.now × (words ≡ codes "op" ∷ codes
 IsSpelled words (Trace turns) = (turns ≤ 10000) × (words ≡ codes "trace" ∷ key_word (codes "turns=") turns ∷ [])
 IsSpelled words (Analyze mode delay narrow) =
     (delay ≤ 1000) × (narrow ≤ 100)
-    × ((first : List (List ℕ)) × (second : List (List ℕ)) × MaySpell (codes "delay=") 2 delay first × MaySpell (codes "narrow=") 0 narrow second
+    × ((first : List (List ℕ)) × (second : List (List ℕ)) × MaySpell (codes "delay=") 2 delay first
+    × MaySpell (codes "narrow=") 0 narrow second
     × (words ≡ codes "analyze" ∷ mode_word mode ∷ (first ++ second)))
 IsSpelled words (Sample seed vars rows) =
     (seed ≤ 2147483647) × (1 ≤ vars) × (vars ≤ 31) × (rows ≤ 1024)
-    × (words ≡ codes "sample" ∷ key_word (codes "seed=") seed ∷ key_word (codes "vars=") vars ∷ key_word (codes "rows=") rows ∷ [])
+    × (words ≡ codes "sample" ∷ key_word (codes "seed=") seed ∷ key_word (codes "vars=") vars ∷ key_word
+    (codes "rows=") rows ∷ [])
 
 -- a command that the words spell, or none where they spell none
 abbrev pub IsReading : List (List ℕ) → Option Command → Type 0
-IsReading words result = MatchOption result ((command : Command) → IsSpelled words command → ⊥) (λ command. IsSpelled words command)
+IsReading words result = MatchOption result ((command : Command) → IsSpelled words command → ⊥)
+    (λ command. IsSpelled words command)

@@ -1,3 +1,4 @@
+//! What a user may ask for.
 use thiserror::Error;
 
 /// The semiring of numbers in which a program is analysed.
@@ -32,12 +33,14 @@ pub enum Command<'a> {
     Forget { var: &'a str },
     /// One run of a program, of at most `turns` configurations, 0 to 10,000.
     Trace { turns: u32 },
-    /// The invariants of a program. The first `delay` changes of a loop's head, 0 to 1,000, are joins; `narrow` descending
+    /// The invariants of a program. The first `delay` changes of a loop's head, 0 to 1,000, are joins; `narrow`
+    /// descending
     /// passes, 0 to 100, follow.
     Analyze { mode: Mode, delay: u32, narrow: u32 },
     /// Whether a report is inductive.
     Check,
-    /// The sizes of a system of `rows` inequalities, 0 to 1,024, in `vars` variables, 1 to 31, made from `seed`, below 2^31.
+    /// The sizes of a system of `rows` inequalities, 0 to 1,024, in `vars` variables, 1 to 31, made from `seed`, below
+    /// 2^31.
     Sample { seed: u32, vars: u32, rows: u32 },
 }
 

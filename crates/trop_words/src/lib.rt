@@ -1,6 +1,7 @@
 //! The words of the command line: which command they spell.
 //!
-//! [`read_words`] answers a [`Command`] exactly where the words are in the table below, one row a command, in exactly this order.
+//! [`read_words`] answers a [`Command`] exactly where the words are in the table below, one row a command, in exactly
+//! this order.
 //! Numbers are decimal, without sign and without leading zeros. A key in square brackets may be left out.
 //!
 //! | Words | Range |

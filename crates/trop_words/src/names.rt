@@ -1,3 +1,4 @@
+//! Names of variables among the words of a command.
 ghost use Rattle.std.specs.Prelude.{◌≡◌, ◌↔◌, IsTrue};
 ghost use Rattle.trop_words.specs.Names.{IsName, begins_name, continues_name};
 

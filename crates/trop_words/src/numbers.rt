@@ -1,3 +1,4 @@
+//! Numbers among the words of a command: `key=number`, without sign and without leading zeros.
 ghost use Rattle.std.specs.Prelude.{◌≡◌, ◌≢◌, ◌≤◌, ◌<◌, ◌^◌, ◌++◌, ℕ, List, decimal, MatchOption};
 ghost use Rattle.trop_words.specs.Words.{key_word};
 
@@ -5,7 +6,8 @@ use itoa::Buffer;
 
 // The text behind the key.
 pub(crate) fn after_key<'a>(word: &'a str, key: &str) -> Option<&'a str>
-    ensures { MatchOption result ((text : List ℕ) → word.now ≢ key.now ++ text) (λ text. word.now ≡ key.now ++ text.now) }
+    ensures { MatchOption result ((text : List ℕ) → word.now ≢ key.now ++ text)
+        (λ text. word.now ≡ key.now ++ text.now) }
 {
     word.strip_prefix(key)
 }

@@ -1,3 +1,4 @@
+//! The table of commands: which words spell which.
 ghost use Rattle.std.specs.Prelude.{◌≡◌, ◌∷◌, [], List, ℕ, map, string_bytes, codes, IfOk, OnErr, MatchOption, ◌≤◌, ◌≢◌};
 ghost use Rattle.trop_words.specs.declared.command.Command.{Command};
 ghost use Rattle.trop_words.specs.Words.{IsSpelled, IsReading, mode_word};

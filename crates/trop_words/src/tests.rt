@@ -1,3 +1,4 @@
+//! The words of each command, and words that spell none.
 use super::*;
 use std::alloc::Global;
 use std::test::Fail;

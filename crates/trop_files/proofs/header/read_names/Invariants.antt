@@ -7,6 +7,7 @@ use Rattle.trop_files.proofs.header.read_names.Given as goal
 
 abbrev pub invariant-names : goal.invariant-names
 invariant-names l = record {
-  reading : list_at Syntax next_name name_at (λ names. no_name) (63 - l.counter) l.names (pieces_left l.rest) ≡ names_at (pieces_left l.at);
+  reading : list_at Syntax next_name name_at (λ names. no_name) (63 - l.counter) l.names (pieces_left l.rest) ≡ names_at
+      (pieces_left l.at);
   count : length l.names ≤ l.counter;
 }

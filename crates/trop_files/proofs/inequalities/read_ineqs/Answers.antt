@@ -4,13 +4,21 @@ use Rattle.trop_reading.proofs.Outcomes.{start_is, spelled, answered, refused, n
 use Rattle.trop_files.proofs.inequalities.read_ineqs.Goals as goal
 
 pub returns-in-Ok-clause-found : goal.returns-in-Ok-clause-found
-returns-in-Ok-clause-found c = spelled inequality_file_reads inequality_file_ends c.args.bytes.now _ (start_is c.args.bytes.now c.new.result c.new-2.result c.new.ensures.tokens c.new-2.ensures.pieces) (inequality_file_of c.in-Ok.file) _ c.in-Ok.ensures.gives
+returns-in-Ok-clause-found c = spelled inequality_file_reads inequality_file_ends c.args.bytes.now _
+    (start_is c.args.bytes.now c.new.result c.new-2.result c.new.ensures.tokens c.new-2.ensures.pieces)
+    (inequality_file_of c.in-Ok.file) _ c.in-Ok.ensures.gives
 
 pub returns-in-Ok-clause-only : goal.returns-in-Ok-clause-only
-returns-in-Ok-clause-only c = answered inequality_file_reads inequality_file_ends c.args.bytes.now _ (start_is c.args.bytes.now c.new.result c.new-2.result c.new.ensures.tokens c.new-2.ensures.pieces) inequality_file_of c.in-Ok.file _ c.in-Ok.ensures.gives
+returns-in-Ok-clause-only c = answered inequality_file_reads inequality_file_ends c.args.bytes.now _
+    (start_is c.args.bytes.now c.new.result c.new-2.result c.new.ensures.tokens c.new-2.ensures.pieces)
+    inequality_file_of c.in-Ok.file _ c.in-Ok.ensures.gives
 
 pub returns-in-Err-clause-only : goal.returns-in-Err-clause-only
-returns-in-Err-clause-only c = not_answered inequality_file_reads inequality_file_ends c.args.bytes.now _ (start_is c.args.bytes.now c.new.result c.new-2.result c.new.ensures.tokens c.new-2.ensures.pieces) inequality_file_of c.in-Err.e c.text_err.result c.in-Err.ensures.gives c.text_err.ensures
+returns-in-Err-clause-only c = not_answered inequality_file_reads inequality_file_ends c.args.bytes.now _
+    (start_is c.args.bytes.now c.new.result c.new-2.result c.new.ensures.tokens c.new-2.ensures.pieces)
+    inequality_file_of c.in-Err.e c.text_err.result c.in-Err.ensures.gives c.text_err.ensures
 
 pub returns-in-Err-clause-fault : goal.returns-in-Err-clause-fault
-returns-in-Err-clause-fault c = refused inequality_file_reads inequality_file_ends c.args.bytes.now _ (start_is c.args.bytes.now c.new.result c.new-2.result c.new.ensures.tokens c.new-2.ensures.pieces) c.in-Err.e c.text_err.result c.in-Err.ensures.gives c.text_err.ensures
+returns-in-Err-clause-fault c = refused inequality_file_reads inequality_file_ends c.args.bytes.now _
+    (start_is c.args.bytes.now c.new.result c.new-2.result c.new.ensures.tokens c.new-2.ensures.pieces) c.in-Err.e
+    c.text_err.result c.in-Err.ensures.gives c.text_err.ensures

@@ -9,23 +9,34 @@ use Rattle.trop_files.proofs.pair.pair_body.Goals as goal
 pub returns-in_err-file-in-Max-clause-gives : goal.returns-in_err-file-in-Max-clause-gives
 returns-in_err-file-in-Max-clause-gives c =
     let p = err_from_is_err_and c.from_residual.result c.from_residual.ensures.1 in
-    rw (p.1, p.2) (body_fails two_of_at two_file max_three.each (header_of c.args.header) _ c.in-Max.is _ c.in_err-file-in-Max.ensures.gives)
+    rw (p.1, p.2) (body_fails two_of_at two_file max_three.each
+    (header_of c.args.header) _ c.in-Max.is _ c.in_err-file-in-Max.ensures.gives)
 
 pub returns-in_ok-file-in-Max-clause-gives : goal.returns-in_ok-file-in-Max-clause-gives
-returns-in_ok-file-in-Max-clause-gives c = body_gives two_of_at two_file max_three.each (header_of c.args.header) _ c.in-Max.is _ _ _ (rw c.in_ok-file-in-Max.ensures.names refl) c.in_ok-file-in-Max.ensures.gives
+returns-in_ok-file-in-Max-clause-gives c = body_gives two_of_at two_file max_three.each
+    (header_of c.args.header) _ c.in-Max.is _ _ _ (rw c.in_ok-file-in-Max.ensures.names refl)
+    c.in_ok-file-in-Max.ensures.gives
 
 pub returns-in_err-file-in-Min-clause-gives : goal.returns-in_err-file-in-Min-clause-gives
 returns-in_err-file-in-Min-clause-gives c =
-    let p = err_from_is_err_and c.from_residual-in_err-file-in-Min.result c.from_residual-in_err-file-in-Min.ensures.1 in
-    rw (p.1, p.2) (body_fails two_of_at two_file min_three.each (header_of c.args.header) _ c.in-Min.is _ c.in_err-file-in-Min.ensures.gives)
+    let p = err_from_is_err_and c.from_residual-in_err-file-in-Min.result c.from_residual-in_err-file-in-Min.ensures.1
+    in
+    rw (p.1, p.2) (body_fails two_of_at two_file min_three.each
+    (header_of c.args.header) _ c.in-Min.is _ c.in_err-file-in-Min.ensures.gives)
 
 pub returns-in_ok-file-in-Min-clause-gives : goal.returns-in_ok-file-in-Min-clause-gives
-returns-in_ok-file-in-Min-clause-gives c = body_gives two_of_at two_file min_three.each (header_of c.args.header) _ c.in-Min.is _ _ _ (rw c.in_ok-file-in-Min.ensures.names refl) c.in_ok-file-in-Min.ensures.gives
+returns-in_ok-file-in-Min-clause-gives c = body_gives two_of_at two_file min_three.each
+    (header_of c.args.header) _ c.in-Min.is _ _ _ (rw c.in_ok-file-in-Min.ensures.names refl)
+    c.in_ok-file-in-Min.ensures.gives
 
 pub returns-in_err-file-in-Bool-clause-gives : goal.returns-in_err-file-in-Bool-clause-gives
 returns-in_err-file-in-Bool-clause-gives c =
-    let p = err_from_is_err_and c.from_residual-in_err-file-in-Bool.result c.from_residual-in_err-file-in-Bool.ensures.1 in
-    rw (p.1, p.2) (body_fails two_of_at two_file bool_three.each (header_of c.args.header) _ c.in-Bool.is _ c.in_err-file-in-Bool.ensures.gives)
+    let p = err_from_is_err_and c.from_residual-in_err-file-in-Bool.result c.from_residual-in_err-file-in-Bool.ensures.1
+    in
+    rw (p.1, p.2) (body_fails two_of_at two_file bool_three.each
+    (header_of c.args.header) _ c.in-Bool.is _ c.in_err-file-in-Bool.ensures.gives)
 
 pub returns-in_ok-file-in-Bool-clause-gives : goal.returns-in_ok-file-in-Bool-clause-gives
-returns-in_ok-file-in-Bool-clause-gives c = body_gives two_of_at two_file bool_three.each (header_of c.args.header) _ c.in-Bool.is _ _ _ (rw c.in_ok-file-in-Bool.ensures.names refl) c.in_ok-file-in-Bool.ensures.gives
+returns-in_ok-file-in-Bool-clause-gives c = body_gives two_of_at two_file bool_three.each
+    (header_of c.args.header) _ c.in-Bool.is _ _ _
+    (rw c.in_ok-file-in-Bool.ensures.names refl) c.in_ok-file-in-Bool.ensures.gives

@@ -17,8 +17,10 @@ loop-row-preserved g c =
     let x = c.row-item.result in
     let here = drop_item c.as_slice-row-items.result.now i x (omega arith) c.row-item.is in
     let item = subst (λ xs. drop i xs ≡ x ∷ drop (i + 1) xs) c.as_slice-row-items.ensures.rows here in
-    let line = c.in_ok-push_generator.ensures ∙ ap (λ y. c.loop-row.text.items ++ generator_line kind (numbers N y)) c.as_slice.ensures.entries in
-    two_more _ _ _ _ _ _ _ _ c.loop-row.invariant (ap (lines_of (λ y. generator_line kind (numbers N y))) item) line c.in_ok-push.ensures.items
+    let line = c.in_ok-push_generator.ensures ∙ ap (λ y. c.loop-row.text.items ++ generator_line kind (numbers N y))
+    c.as_slice.ensures.entries in
+    two_more _ _ _ _ _ _ _ _ c.loop-row.invariant (ap (lines_of (λ y. generator_line kind (numbers N y))) item) line
+    c.in_ok-push.ensures.items
 
 pub returns-clause-read_back : goal.returns-clause-read_back
 returns-clause-read_back g c =
@@ -27,9 +29,13 @@ returns-clause-read_back g c =
     let names = c.args.names.now in
     let rows = c.args.gens.now.rows in
     let past : length rows ≤ c.loop-row.row-index = omega (arith, ap length c.as_slice-row-items.ensures.rows) in
-    let text = all_done _ _ _ c.loop-row.invariant (ap (lines_of (λ y. generator_line kind (numbers N y))) (drop_all rows c.loop-row.row-index past)) in
+    let text = all_done _ _ _ c.loop-row.invariant
+    (ap (lines_of (λ y. generator_line kind (numbers N y))) (drop_all rows c.loop-row.row-index past)) in
     let few_names : length names ≤ 63 = omega (arith, c.requires.names, c.as_slice-row-items.ensures.at_most) in
     let wide = subst (λ n. AreWide n rows) c.requires.names c.as_slice-row-items.ensures.wide in
     λ few small.
-    subst (λ bytes. SpellsGenerators (pieces_of bytes) (record { names = names; vars_line = 3; rows = g.S.Spelling.three.over Rows rows })) (sym text)
-    (gens_read_back kind g.S.Scalar.REVERSED g.S.Scalar.ring N g.met.S.Scalar.number_laws g.met.S.Spelling.kind_laws (one_of g.S.Spelling.three g.S.Spelling.KIND g.S.Scalar.ring g.S.Scalar.numbering g.met.S.Spelling.three_laws) names rows c.in_ok-push_header.ensures.names few_names c.requires.normal wide few small)
+    subst (λ bytes. SpellsGenerators (pieces_of bytes)
+    (record { names = names; vars_line = 3; rows = g.S.Spelling.three.over Rows rows })) (sym text)
+    (gens_read_back kind g.S.Scalar.REVERSED g.S.Scalar.ring N g.met.S.Scalar.number_laws g.met.S.Spelling.kind_laws
+    (one_of g.S.Spelling.three g.S.Spelling.KIND g.S.Scalar.ring g.S.Scalar.numbering g.met.S.Spelling.three_laws)
+    names rows c.in_ok-push_header.ensures.names few_names c.requires.normal wide few small)

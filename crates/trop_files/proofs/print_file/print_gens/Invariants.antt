@@ -7,4 +7,5 @@ abbrev pub invariant-loop-row : goal.invariant-loop-row
 invariant-loop-row g l =
     let kind = g.S.Spelling.KIND in
     let N = g.S.Scalar.numbering in
-    l.text.items ++ lines_of (λ x. generator_line kind (numbers N x)) (drop l.row-index l.gens.rows) ≡ printed_gens kind N l.names l.gens.rows
+    l.text.items ++ lines_of (λ x. generator_line kind (numbers N x)) (drop l.row-index l.gens.rows) ≡
+    printed_gens kind N l.names l.gens.rows

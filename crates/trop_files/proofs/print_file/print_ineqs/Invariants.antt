@@ -7,4 +7,5 @@ abbrev pub invariant-loop-ineq : goal.invariant-loop-ineq
 invariant-loop-ineq g l =
     let kind = g.S.Spelling.KIND in
     let N = g.S.Scalar.numbering in
-    l.text.items ++ lines_of (printed_inequality kind N l.names) (drop l.ineq-index l.system.inequalities) ≡ printed_ineqs kind N l.names l.system.inequalities
+    l.text.items ++ lines_of (printed_inequality kind N l.names) (drop l.ineq-index l.system.inequalities) ≡
+    printed_ineqs kind N l.names l.system.inequalities

@@ -5,5 +5,6 @@ use Rattle.trop_files.proofs.print_file.push_names.Goals as goal
 
 pub loop-place-preserved : goal.loop-place-preserved
 loop-place-preserved c =
-    two_more _ _ _ _ _ _ _ _ c.loop-place.invariant (ap after_spaces (drop_found c.args.names.now c.loop-place.place _ c.name.ensures)) c.in_ok-push.ensures.items
+    two_more _ _ _ _ _ _ _ _ c.loop-place.invariant
+    (ap after_spaces (drop_found c.args.names.now c.loop-place.place _ c.name.ensures)) c.in_ok-push.ensures.items
     (c.in_ok-extend_from_slice.ensures.items ∙ ap (λ t. c.push.new.self.items ++ t) c.as_bytes.ensures.value)

@@ -8,6 +8,7 @@ pub loop-done-preserved : goal.loop-done-preserved
 loop-done-preserved g c =
     record {
       within = omega (arith, c.in-Ok.ensures.bound);
-      bytes = rw take-add (Appends-more _ _ _ _ _ c.loop-done.invariant.bytes (simp take_rest at c.in-Ok.ensures.bytes));
+      bytes = rw take-add (Appends-more _ _ _ _ _ c.loop-done.invariant.bytes
+          (simp take_rest at c.in-Ok.ensures.bytes));
       quiet = c.in-Ok.ensures.cause.quiet ∙ c.loop-done.invariant.quiet;
     }

@@ -13,7 +13,11 @@ loop-i-preserved g c =
     let item = ap (numbers N) (drop_item side i c.index-side-i.result (omega arith) c.index-side-i.is) in
     let number = finite_number _ _ _ c.is_none.ensures c.if-is_none.false c.number.ensures in
     let terms = ap (terms_from kind names i) (item ∙ ap (λ n. n ∷ numbers N (drop (i + 1) side)) number.1) in
-    one_term c.loop-i.started c.loop-i.text.items _ _ _ _ _ (ap (λ ts. c.loop-i.text.items ++ terms_left c.loop-i.started ts) (sym terms) ∙ c.loop-i.invariant) c.in_ok-push_comma.ensures (c.in_ok-push_term.ensures number.0 number.1)
+    one_term c.loop-i.started c.loop-i.text.items _ _ _ _ _
+    (ap (λ ts. c.loop-i.text.items ++ terms_left c.loop-i.started ts) (sym terms) ∙ c.loop-i.invariant)
+    c.in_ok-push_comma.ensures (c.in_ok-push_term.ensures number.0 number.1)
 
 pub returns : goal.returns
-returns g c = none_left c.loop-i.started _ _ _ c.loop-i.invariant (ap (λ xs. terms_from g.S.Spelling.KIND c.args.names.now c.loop-i.i (numbers g.S.Scalar.numbering xs)) (drop_all c.args.side.now c.loop-i.i c.loop-i-test.false))
+returns g c = none_left c.loop-i.started _ _ _ c.loop-i.invariant
+    (ap (λ xs. terms_from g.S.Spelling.KIND c.args.names.now c.loop-i.i (numbers g.S.Scalar.numbering xs))
+    (drop_all c.args.side.now c.loop-i.i c.loop-i-test.false))

@@ -6,4 +6,5 @@ use Rattle.trop_spelling.proofs.print_side.push_terms.Given as goal
 abbrev pub invariant-loop-i : goal.invariant-loop-i
 invariant-loop-i g l =
     let terms = terms_from g.S.Spelling.KIND l.names in
-    l.text.items ++ terms_left l.started (terms l.i (numbers g.S.Scalar.numbering (drop l.i l.side))) ≡ l.fn.text.items ++ comma_list (terms 0 (numbers g.S.Scalar.numbering l.side))
+    l.text.items ++ terms_left l.started (terms l.i (numbers g.S.Scalar.numbering (drop l.i l.side))) ≡ l.fn.text.items
+    ++ comma_list (terms 0 (numbers g.S.Scalar.numbering l.side))

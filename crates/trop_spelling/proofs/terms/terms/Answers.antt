@@ -12,17 +12,21 @@ terms-init g c = record { reading = rw c.new-terms.ensures.items refl; source = 
 pub returns-in_err-more-clause-gives : goal.returns-in_err-more-clause-gives
 returns-in_err-more-clause-gives g c =
     let p = err_from_is_err_and c.from_residual.result c.from_residual.ensures.1 in
-    rw (p.1, p.2) (separated_failed (terms_parts g.S.Scalar.ring g.S.Scalar.numbering c.args.bound c.args.names.now g.S.Spelling.KIND) _ _ _ _ c.in_err-more.ensures.gives c.terms.invariant.reading)
+    rw (p.1, p.2) (separated_failed (terms_parts g.S.Scalar.ring g.S.Scalar.numbering c.args.bound c.args.names.now
+    g.S.Spelling.KIND) _ _ _ _ c.in_err-more.ensures.gives c.terms.invariant.reading)
 
 pub returns-then-not-more-clause-gives : goal.returns-then-not-more-clause-gives
 returns-then-not-more-clause-gives g c =
-    separated_done (terms_parts g.S.Scalar.ring g.S.Scalar.numbering c.args.bound c.args.names.now g.S.Spelling.KIND) _ _ _ _ _ _ (search c.if-not-more.true) c.in_ok-more.ensures.gives c.terms.invariant.reading
+    separated_done (terms_parts g.S.Scalar.ring g.S.Scalar.numbering c.args.bound c.args.names.now g.S.Spelling.KIND)
+    _ _ _ _ _ _ (search c.if-not-more.true) c.in_ok-more.ensures.gives c.terms.invariant.reading
 
 pub terms-preserved : goal.terms-preserved
 terms-preserved g c = record {
-  reading = separated_more (terms_parts g.S.Scalar.ring g.S.Scalar.numbering c.args.bound c.args.names.now g.S.Spelling.KIND) _ _ _ _ _ _ (search c.if-not-more.false) c.in_ok-more.ensures.gives c.terms.invariant.reading;
+  reading = separated_more (terms_parts g.S.Scalar.ring g.S.Scalar.numbering c.args.bound c.args.names.now
+      g.S.Spelling.KIND) _ _ _ _ _ _ (search c.if-not-more.false) c.in_ok-more.ensures.gives c.terms.invariant.reading;
   source = c.in_ok-more.ensures.source ∙ c.terms.invariant.source;
 }
 
 pub terms-smaller : goal.terms-smaller
-terms-smaller g c = separated_shorter (terms_parts g.S.Scalar.ring g.S.Scalar.numbering c.args.bound c.args.names.now g.S.Spelling.KIND) _ _ _ _ c.in_ok-more.ensures.gives
+terms-smaller g c = separated_shorter (terms_parts g.S.Scalar.ring g.S.Scalar.numbering c.args.bound c.args.names.now
+    g.S.Spelling.KIND) _ _ _ _ c.in_ok-more.ensures.gives

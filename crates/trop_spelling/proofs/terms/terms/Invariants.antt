@@ -8,7 +8,9 @@ use Rattle.trop_spelling.proofs.terms.terms.Given as goal
 
 abbrev pub invariant-terms : goal.invariant-terms
 invariant-terms g l = record {
-  reading : separated_at Syntax (term_at g.S.Spelling.KIND g.S.Scalar.ring g.S.Scalar.numbering l.bound l.names) between_terms (said (codes ")")) l.terms.items (pieces_left l.rest) ≡ terms_at g.S.Spelling.KIND g.S.Scalar.ring g.S.Scalar.numbering l.bound l.names (pieces_left l.at);
+  reading : separated_at Syntax (term_at g.S.Spelling.KIND g.S.Scalar.ring g.S.Scalar.numbering l.bound l.names)
+      between_terms (said (codes ")")) l.terms.items (pieces_left l.rest) ≡ terms_at g.S.Spelling.KIND g.S.Scalar.ring
+      g.S.Scalar.numbering l.bound l.names (pieces_left l.at);
   source : pieces_source l.rest ≡ pieces_source l.at;
 }
 

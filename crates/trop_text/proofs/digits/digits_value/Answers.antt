@@ -13,7 +13,8 @@ loop-digit-preserved c =
     let d = get_or c.args.text.now c.loop-digit.digit-index 0 in
     let e = c.in_ok-value.ensures in
     record {
-      value = e.1 ∙ ap (λ v. v * 10 + (d - 48)) c.loop-digit.invariant.value ∙ sym (number_of-more c.args.text.now c.loop-digit.digit-index (omega arith));
+      value = e.1 ∙ ap (λ v. v * 10 + (d - 48)) c.loop-digit.invariant.value
+          ∙ sym (number_of-more c.args.text.now c.loop-digit.digit-index (omega arith));
       within = omega (arith, e.0, e.1);
     }
 
@@ -21,4 +22,10 @@ pub returns-in_err-value-clause-value : goal.returns-in_err-value-clause-value
 returns-in_err-value-clause-value c =
     let i = c.loop-digit.digit-index in
     rw c.from_residual.ensures
-    (λ fits. c.in_err-value.ensures (omega (arith, fits, c.loop-digit.invariant.value, number_of-more c.args.text.now i (omega arith), number_of-take c.args.text.now (i + 1))))
+    (λ fits. c.in_err-value.ensures (omega (
+      arith,
+      fits,
+      c.loop-digit.invariant.value,
+      number_of-more c.args.text.now i (omega arith),
+      number_of-take c.args.text.now (i + 1),
+    )))

@@ -10,5 +10,6 @@ returns-then-is_outside-clause-pieces c =
     let line = c.args.self.line in
     rw c.if-self.false
     (ap (λ (ts : List Tok). pieces_from ts line) (sym c.skip.ensures.tokens)
-    ∙ line_over here.rest.now here.line here.column line c.skip.ensures.at_token c.if-self-ne0.true (c.is_outside.ensures.0 c.if-is_outside.true)
+    ∙ line_over here.rest.now here.line here.column line c.skip.ensures.at_token c.if-self-ne0.true
+    (c.is_outside.ensures.0 c.if-is_outside.true)
     ∙ ap (λ (ps : List Piece). LineEnd line ∷ ps) (sym c.new.ensures.pieces))
