@@ -1,4 +1,5 @@
 -- A printed program is nested no deeper than any text of it.
+-- Index: many_keeps, chain_keeps, condition_nests, block_nests.
 use Rattle.std.proofs.Common.{◌≤◌, ℕ, zero, suc, true, false, Option, List, codes, Result, sym, subst, arith}
 use Rattle.trop_text.specs.declared.fault.FaultKind.{FaultKind}
 use Rattle.shape_grammar.specs.Texts.{Maybe, LeftOut, Written, Many, NoMore, OneMore}

@@ -48,8 +48,7 @@ IsTraceCause L rule what before t =
     ⊎ ((what ≡ NumberRange) × (is_digits t ≡ true) × (L.entry < number_of (text t)))
 
 -- What a trace file keeps: its program is within the limits, it starts with one number for each variable, and no number
--- of
--- a row is too great.
+-- of a row is too great.
 pub record IsTraceWithin (L : Limits) (x : TraceFile) : Type 0 where
   pub program : IsWithin L x.program
   pub width : length x.start ≡ length x.program.names

@@ -1,7 +1,7 @@
 -- The extreme rows of a list are those that are minimal at some coordinate, all rows scaled to the one there.
 -- Butkovic, Schneider, Sergeev: Generators, extremals and bases of max cones (2007).
--- Index: Below-scaled, below_both, type_is_minimal, IsLower, minimal_is_none_lower, extreme_is_minimal,
--- generated_extreme_has_type, canonical_is_minimal, below_by_products.
+-- Index: Below-scaled, below_both, undo_inverse, from_one, from_one_itself, to_one, type_is_minimal, IsLower,
+-- minimal_is_none_lower, extreme_is_minimal, generated_extreme_has_type, canonical_is_minimal, below_by_products.
 use Rattle.std.proofs.Common.{◌≡◌, ◌≢◌, ◌<◌, ℕ, zero, suc, List, [], ◌∷◌, length, get_or, inl, inr, ⊎_elim, sym, ap, ◌∙◌, refl, arith, subst}
 use Rattle.std.specs.Prelude.{All, Any, Contains, ◌↔◌}
 use Rattle.std.proofs.lemmas.Bool.{cases_lt}
@@ -25,6 +25,7 @@ use Rattle.trop_theory.proofs.SameCones.{IsCombination-contained}
 use Rattle.trop_theory.proofs.Decided.{Below-decided}
 use Rattle.plain_lemmas.proofs.Decisions.{Decided, all_or_some}
 use Rattle.trop_theory.proofs.Narrower.{IsExtreme-narrower}
+use Rattle.trop_theory.proofs.Types.{IsExtreme-from_type}
 use Rattle.trop_cones.specs.Minimal.{at_one, IsMinimalAt}
 
 -- the multiple of g that has the entry t of x, where that of g is finite
@@ -39,35 +40,18 @@ module _ {V : Type 0} {R : Semiring V} (laws : SemiringLaws R) where
   pub below_both : (x y : List V) → length x ≡ length y → Below R x y → Below R y x → x ≡ y
   below_both x y l h k = same_rows R x y l (λ i. le_antisym laws _ _ (h i) (k i))
 
-  -- a vector with a type is extreme
-  IsExtreme-from_type : (n : ℕ) (cone : List V → Type 0) (x : List V) (t : ℕ) → ((y : List V) → cone y → length y ≡ n) →
-      IsType R cone x t → IsExtreme R cone x
-  IsExtreme-from_type n cone x t wide h = record {
-    member = h.member;
-    not_bottom = λ e. h.finite (ap (λ y. entry R y t) e ∙ entry-bottom R (length x) t);
-    unsplit = λ y z in_y in_z sum.
-        let at : (i : ℕ) → entry R x i ≡ R.plus (entry R y i) (entry R z i) =
-        λ i. ap (λ v. entry R v i) sum ∙ entry-joined laws y z (wide y in_y ∙ sym (wide z in_z)) i in
-        ⊎_elim
-        (λ e. inl (sym (h.least y in_y (λ i. subst (Le R (entry R y i)) (sym (at i)) (le-plus_left laws _ _))
-        (sym e ∙ sym (at t)))))
-        (λ e. inr (sym (h.least z in_z (λ i. subst (Le R (entry R z i)) (sym (at i)) (le-plus_right laws _ _))
-        (sym e ∙ sym (at t)))))
-        (laws.selective (entry R y t) (entry R z t));
-  }
-
-  undo_inverse : (c : V) → c ≢ R.zero → R.times (R.inverse c) c ≡ R.one
+  pub undo_inverse : (c : V) → c ≢ R.zero → R.times (R.inverse c) c ≡ R.one
   undo_inverse c f = laws.times_comm (R.inverse c) c ∙ laws.invertible c f
 
   -- scaled to the one at t and back
-  from_one : (t : ℕ) (a : V) (g : List V) → scaled R a (at_one R t g) ≡ scaled R (R.times a (R.inverse (entry R g t))) g
+  pub from_one : (t : ℕ) (a : V) (g : List V) → scaled R a (at_one R t g) ≡ scaled R (R.times a (R.inverse (entry R g t))) g
   from_one t a g = scaled-scaled laws a (R.inverse (entry R g t)) g
 
-  from_one_itself : (t : ℕ) (x : List V) → entry R x t ≢ R.zero → scaled R (entry R x t) (at_one R t x) ≡ x
+  pub from_one_itself : (t : ℕ) (x : List V) → entry R x t ≢ R.zero → scaled R (entry R x t) (at_one R t x) ≡ x
   from_one_itself t x f = from_one t (entry R x t) x ∙ ap (λ c. scaled R c x) (laws.invertible (entry R x t) f)
       ∙ scaled_one laws x
 
-  to_one : (a b : V) (g : List V) → a ≢ R.zero → scaled R (R.inverse a) (scaled R (R.times a b) g) ≡ scaled R b g
+  pub to_one : (a b : V) (g : List V) → a ≢ R.zero → scaled R (R.inverse a) (scaled R (R.times a b) g) ≡ scaled R b g
   to_one a b g f =
       scaled-scaled laws (R.inverse a) (R.times a b) g
       ∙ ap (λ c. scaled R c g) (sym (laws.times_assoc (R.inverse a) a b) ∙ ap (λ c. R.times c b) (undo_inverse a f)

@@ -1,6 +1,5 @@
 -- The sizes of rows and lists: of an entry, of a quotient of entries, of rows with one entry replaced, and of a whole
--- from
--- its parts.
+-- from its parts.
 use Rattle.std.proofs.Common.{◌≢◌, ◌<◌, ◌≤◌, ◌+◌, ℕ, zero, suc, List, [], ◌∷◌, length, set, ⊎_elim, ap, arith}
 use Rattle.std.specs.Prelude.{All}
 use Rattle.std.proofs.lemmas.Bool.{cases_lt}

@@ -1,4 +1,5 @@
 -- An extreme solution has a node that is reached from every node.
+-- Index: ReachedSet, some_reached.
 use Rattle.std.proofs.Common.{◌≡◌, ◌≢◌, ◌⊎◌, ◌<◌, ◌≤◌, ℕ, zero, suc, Bool, true, List, length, inl, inr, ⊎_elim, refl, sym, ap, ◌∙◌, arith, subst, get_or}
 use Rattle.std.specs.Prelude.{IsTrue, All}
 use Rattle.std.proofs.lemmas.List.{get_or_past}

@@ -1,4 +1,5 @@
 -- A barrier at each coordinate, one entry after another, and its size.
+-- Index: high_none, high_skip, high_more, barrier, IsBarrier-barrier, row_size-barrier.
 use Rattle.std.proofs.Common.{◌≡◌, ◌≢◌, ◌⊎◌, ◌<◌, ◌≤◌, ◌+◌, ◌*◌, ℕ, zero, suc, List, [], ◌∷◌, ◌++◌, length, take, get_or, inl, inr, ⊎_elim, sym, ap, ◌∙◌, refl, arith, subst}
 use Rattle.std.specs.Prelude.{Contains}
 use Rattle.std.proofs.lemmas.Bool.{cases_eq}

@@ -18,35 +18,12 @@ use Rattle.trop_theory.proofs.Canonical.{IsExtreme-same}
 use Rattle.trop_theory.proofs.Distinct.{ascending_distinct}
 use Rattle.plain_lemmas.proofs.Distinct.{no_longer}
 use Rattle.trop_theory.proofs.StepLists.{from_chosen}
+use Rattle.trop_theory.proofs.Chosen.{pairs_chosen}
 use Rattle.trop_duality.specs.Polars.{InPolar}
 use Rattle.trop_duality.specs.External.{bound_of, AreBounds, IsExternalUpTo}
 use Rattle.trop_duality.specs.PolarStops.{IsListOver}
 use Rattle.trop_duality.proofs.Polars.{polar_system_is_polar}
 use Rattle.trop_cones.proofs.Generated.{length-units, unit_at, IsUnit-set, units_below_canonical}
-
-module _ {X : Type 0} (D : X → X → Type 0) where
-  pairs_cons : (x : X) (xs : List X) → All (D x) xs → AllPairs D xs → AllPairs D (x ∷ xs)
-  pairs_cons x xs h k zero zero d lt l = absurd (omega arith)
-  pairs_cons x xs h k zero (suc j) d lt l = h j d (omega arith)
-  pairs_cons x xs h k (suc i) zero d lt l = absurd (omega arith)
-  pairs_cons x xs h k (suc i) (suc j) d lt l = k i j d (omega arith) (omega arith)
-
-  pairs_head : (x : X) (xs : List X) → AllPairs D (x ∷ xs) → All (D x) xs
-  pairs_head x xs h k d l = h 0 (suc k) d (omega arith) (omega arith)
-
-  pairs_tail : (x : X) (xs : List X) → AllPairs D (x ∷ xs) → AllPairs D xs
-  pairs_tail x xs h i j d lt l = h (suc i) (suc j) d (omega arith) (omega arith)
-
-  -- what holds of each two elements in order holds of the chosen ones
-  pub pairs_chosen : (P : X → Type 0) (xs ys : List X) → AreChosen P xs ys → AllPairs D xs → AllPairs D ys
-  pairs_chosen P [] ys h k = subst (AllPairs D) (sym h) k
-  pairs_chosen P (x ∷ xs) ys h k = ⊎_elim
-      (λ a. subst (AllPairs D) (sym a.1.1) (pairs_cons x a.1.0
-      (λ i d l. All-contains (D x) xs (get_or a.1.0 i d) (pairs_head x xs k)
-      (from_chosen P xs a.1.0 a.1.2 (get_or a.1.0 i d) (Contains-get_or a.1.0 i d l)).0)
-      (pairs_chosen P xs a.1.0 a.1.2 (pairs_tail x xs k))))
-      (λ a. pairs_chosen P xs ys a.1 (pairs_tail x xs k))
-      h
 
 module _ {V : Type 0} {R : Semiring V} (laws : SemiringLaws R) (n : ℕ) where
   unit_same : (i : ℕ) (u v : List V) → IsUnit R n i u → IsUnit R n i v → u ≡ v

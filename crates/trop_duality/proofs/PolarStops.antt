@@ -1,4 +1,7 @@
 -- The pairs of a coordinate and a number of rows, one after another, up to the first that is refused.
+-- Index: NoneBefore, none_before_first, none_before_more, none_before_next, none_before_empty, none_before_rows,
+-- none_before_through, IsPolarStop-from, IsPolarStop-polar, no_stop_from_none, IsPolarStop-unique, list_over_is_long,
+-- IsPolarStop-list, polars_within, polar_over_from_stop.
 use Rattle.std.proofs.Common.{◌≡◌, ◌<◌, ◌≤◌, ◌+◌, ℕ, zero, suc, List, [], ◌∷◌, length, take, inl, inr, ⊎_elim, sym, ap, ◌∙◌, refl, arith, subst}
 use Rattle.std.specs.Prelude.{All, ◌↔◌}
 use Rattle.std.proofs.lemmas.Bool.{cases_lt}

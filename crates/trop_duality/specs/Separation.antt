@@ -9,8 +9,7 @@ use Rattle.trop_theory.specs.Residual.{Meets}
 use Rattle.trop_theory.specs.Residual.{IsFirstUnmet}
 
 -- x_t is at most the sum of p_j x_j over the j other than t: true at each combination of the rows, and false at x, at
--- the
--- first unmet t
+-- the first unmet t
 pub record Separates {V : Type 0} (R : Semiring V) (n : ℕ) (rows : List (List V)) (x : List V)
     (p : Inequality V) : Type 0 where
   pub place : ℕ

@@ -1,4 +1,6 @@
 -- What a reader by lines answers.
+-- Index: shown, sound_behind, next_only_is, next_end_is, next_size, next_count, next_given, next_found, refused_only,
+-- refused_end, line_refused, next_refused, sound_fault.
 use Rattle.std.proofs.Common.{◌≡◌, ◌<◌, ◌≤◌, ◌+◌, ◌^◌, ◌⊎◌, inl, inr, ℕ, Bool, true, false, Option, Some, None, List, [], ◌++◌, length, Ok, Err, sym, ap, subst, ◌∙◌, arith}
 use Rattle.std.specs.Prelude.{is_some, IfSome, IfNone}
 use Rattle.trop_theory.specs.Semiring.{Semiring, SemiringLaws}

@@ -31,8 +31,7 @@ pub record AtText : Type 0 where
   pub body : Over At
 
 -- Lines of inequalities up to the word `at`, the vector with an element for each variable and one in front for
--- coordinate
--- 0, and the end of the input.
+-- coordinate 0, and the end of the input.
 abbrev pub IsAt : {V : Type 0} → RingKind → Semiring V → Numbering V → List (List ℕ) → List Piece → At V → Type 0
 IsAt kind R N names =
     Then (AreInequalities kind R N names (ends AtWord))

@@ -23,6 +23,3 @@ pub use inequalities::{AnyIneqs, IneqFile, read_ineqs};
 pub use pair::{AnyPair, PairFile, read_pair};
 pub use print_file::{print_gens, print_ineqs};
 pub use trop_spelling::{NoMemory, RingKind, Spelling, ineq_text, read_ineq, read_row, row_text};
-
-#[cfg(test)]
-mod reader_tests;

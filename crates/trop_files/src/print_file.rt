@@ -16,8 +16,7 @@ use trop_spelling::{NoMemory, Spelling, push_inequality, push_row};
 use trop_text::Names;
 
 /// The file of generators with these rows, which are in normal form, in the variables with these names. Where a file
-/// may
-/// hold them, it is read back as these names and rows.
+/// may hold them, it is read back as these names and rows.
 pub fn print_gens<S: Spelling>(
     alloc: Global,
     names: &Names,
@@ -40,8 +39,7 @@ pub fn print_gens<S: Spelling>(
 }
 
 /// The file of these inequalities, in the variables with these names. Where a file may hold them, it is read back as
-/// these
-/// names and inequalities.
+/// these names and inequalities.
 pub fn print_ineqs<S: Spelling>(
     alloc: Global,
     names: &Names,

@@ -35,8 +35,7 @@ unfoldable pub list_last : {T W A : Type 0} → W → (List A → T → Result (
 list_last missing last xs = token_at missing (last xs) >>= λ u. gives xs
 
 -- Behind the items xs: n more items at most, each begun by a token that `start` lets pass as Some, up to a token that
--- it
--- lets pass as None. Behind the n-th item `last` judges the next token.
+-- it lets pass as None. Behind the n-th item `last` judges the next token.
 unfoldable pub list_at : {T W A C : Type 0} → W → (List A → T → Result (Option C) W) →
     (List A → C → List T → Reading T W A) → (List A → T → Result (Unit {0}) W) → ℕ → List A → List T →
     Reading T W (List A)
@@ -85,8 +84,7 @@ unfoldable pub separated_last : {T W A : Type 0} → W → (List T → Reading T
 separated_last missing item close xs = item >>= λ x. token_at missing close >>= λ u. gives (xs ++ x ∷ [])
 
 -- Behind the items xs: an item and n more at most, each with a token behind it: one that `between` lets pass as true,
--- or,
--- behind the last item, as false. Behind the last item that may be `close` judges the token.
+-- or, behind the last item, as false. Behind the last item that may be `close` judges the token.
 unfoldable pub separated_from : {T W A : Type 0} → W → (List T → Reading T W A) → (T → Result Bool W) →
     (T → Result (Unit {0}) W) → ℕ → List A → List T → Reading T W (List A)
 separated_from missing item between close n xs = until_at (separated_step missing item between)

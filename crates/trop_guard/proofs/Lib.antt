@@ -1,5 +1,3 @@
-pub mod Chosen
 pub mod FreshRows
 pub mod Products
-pub mod Placing
 pub mod Pairs

@@ -24,7 +24,8 @@ abbrev pub HasLower : {V : Type 0} → Semiring V → Inequality V → List (Lis
 HasLower R p kept dropped x t = Any (λ w. Meets R x t w × HasLowerWith R p kept x t w) dropped
 
 -- at t no kept row meets x, and no mixed row is lower
-pub record IsFreshAt {V : Type 0} (R : Semiring V) (p : Inequality V) (kept dropped : List (List V)) (x : List V) (t : ℕ) : Type 0 where
+pub record IsFreshAt {V : Type 0} (R : Semiring V) (p : Inequality V) (kept dropped : List (List V)) (x : List V)
+    (t : ℕ) : Type 0 where
   pub finite : entry R x t ≢ R.zero
   pub unmet : Any (Meets R x t) kept → ⊥
   pub none_lower : HasLower R p kept dropped x t → ⊥

@@ -6,7 +6,8 @@ use Rattle.trop_theory.specs.Normal.{IsNormal}
 use Rattle.trop_theory.specs.Inequalities.{Inequality, IsTrueAt, IsIn, inequality_size}
 
 -- the inequality is true at the kept rows, whose sums of its right side are given, and false at the dropped ones
-pub record AreParts {V : Type 0} (R : Semiring V) (n : ℕ) (p : Inequality V) (kept : List (List V)) (rights : List V) (dropped : List (List V)) : Type 0 where
+pub record AreParts {V : Type 0} (R : Semiring V) (n : ℕ) (p : Inequality V) (kept : List (List V)) (rights : List V)
+    (dropped : List (List V)) : Type 0 where
   pub inside : IsIn n p
   pub small : inequality_size R p ≤ 2 ^ 49
   pub kept_wide : AreWide n kept

@@ -11,7 +11,8 @@ use trop_scalar::Scalar;
 
 // Whether x is fresh at t.
 fn is_fresh_at<S: Scalar>(ineq: &Ineq<S>, parts: &Parts<S>, x: &Row<S>, t: u32) -> bool
-    requires parts { AreParts S.ring parts.now.kept.n ineq.now parts.now.kept.rows parts.now.rights.items parts.now.dropped.rows }
+    requires parts { AreParts S.ring parts.now.kept.n ineq.now parts.now.kept.rows parts.now.rights.items
+        parts.now.dropped.rows }
     requires long { length x.now ≡ parts.now.kept.n }
     requires within { t < parts.now.kept.n }
     requires size { row_size S.ring x.now ≤ 2 ^ 60 }
@@ -28,7 +29,8 @@ fn is_fresh_at<S: Scalar>(ineq: &Ineq<S>, parts: &Parts<S>, x: &Row<S>, t: u32) 
 
 // Whether x is fresh at some coordinate.
 pub fn is_fresh<S: Scalar>(ineq: &Ineq<S>, parts: &Parts<S>, x: &Row<S>) -> bool
-    requires parts { AreParts S.ring parts.now.kept.n ineq.now parts.now.kept.rows parts.now.rights.items parts.now.dropped.rows }
+    requires parts { AreParts S.ring parts.now.kept.n ineq.now parts.now.kept.rows parts.now.rights.items
+        parts.now.dropped.rows }
     requires long { length x.now ≡ parts.now.kept.n }
     requires size { row_size S.ring x.now ≤ 2 ^ 60 }
     ensures { IsTrue result ↔ (t : ℕ) × IsFreshAt S.ring ineq.now parts.now.kept.rows parts.now.dropped.rows x.now t }

@@ -14,10 +14,13 @@ use trop_scalar::Scalar;
 /// coordinate: where all rows are scaled to the one there, no other is below (Butkovic, Schneider, Sergeev, Generators,
 /// extremals and bases of max cones, 2007).
 pub fn canonical_rows_are_minimal<S: Scalar>()
-    ensures { (n : ℕ) (rows others : List (List S)) → AreWide n rows → All (IsNormal S.ring) rows → IsCanonical S.ring (IsCombination S.ring n rows) others → (x : List S) → Contains others x ↔ (Contains rows x × ((t : ℕ) × IsMinimalAt S.ring rows x t)) }
+    ensures { (n : ℕ) (rows others : List (List S)) → AreWide n rows → All (IsNormal S.ring) rows →
+        IsCanonical S.ring (IsCombination S.ring n rows) others → (x : List S) →
+        Contains others x ↔ (Contains rows x × ((t : ℕ) × IsMinimalAt S.ring rows x t)) }
 {}
 
 /// The coordinates at which a combination of the rows is minimal are its types.
 pub fn minimal_coordinates_are_types<S: Scalar>()
-    ensures { (n : ℕ) (rows : List (List S)) → AreWide n rows → (x : List S) (t : ℕ) → IsCombination S.ring n rows x → IsType S.ring (IsCombination S.ring n rows) x t ↔ IsMinimalAt S.ring rows x t }
+    ensures { (n : ℕ) (rows : List (List S)) → AreWide n rows → (x : List S) (t : ℕ) → IsCombination S.ring n rows x →
+        IsType S.ring (IsCombination S.ring n rows) x t ↔ IsMinimalAt S.ring rows x t }
 {}

@@ -45,7 +45,9 @@ fn is_under<S: Scalar>(
     requires within { t < length v.now }
     requires size { row_size S.ring x.now ≤ 2 ^ 60 }
     requires top_size { S.ring.size top ≤ 2 ^ 59 }
-    ensures { IsTrue result ↔ ((j : ℕ) → j < length x.now → Le S.ring (S.ring.times (entry S.ring (joined S.ring (scaled S.ring left v.now) (scaled S.ring right w.now)) j) (entry S.ring x.now t)) (S.ring.times (entry S.ring x.now j) top)) }
+    ensures { IsTrue result ↔ ((j : ℕ) → j < length x.now →
+        Le S.ring (S.ring.times (entry S.ring (joined S.ring (scaled S.ring left v.now) (scaled S.ring right w.now)) j)
+        (entry S.ring x.now t)) (S.ring.times (entry S.ring x.now j) top)) }
 {
     for j in 0..x.len() {
         let mixed = mixed_entry(v, left, w, right, j);
@@ -63,7 +65,10 @@ fn is_over<S: Scalar>(v: &Row<S>, left: S, w: &Row<S>, right: S, top: S, x: &Row
     requires within { t < length v.now }
     requires size { row_size S.ring x.now ≤ 2 ^ 60 }
     requires top_size { S.ring.size top ≤ 2 ^ 59 }
-    ensures { IsTrue result ↔ ((j : ℕ) → j < length x.now → Le S.ring (S.ring.times (entry S.ring x.now j) top) (S.ring.times (entry S.ring (joined S.ring (scaled S.ring left v.now) (scaled S.ring right w.now)) j) (entry S.ring x.now t))) }
+    ensures { IsTrue result ↔ ((j : ℕ) → j < length x.now →
+        Le S.ring (S.ring.times (entry S.ring x.now j) top)
+        (S.ring.times (entry S.ring (joined S.ring (scaled S.ring left v.now) (scaled S.ring right w.now)) j)
+        (entry S.ring x.now t))) }
 {
     for j in 0..x.len() {
         let mixed = mixed_entry(v, left, w, right, j);
@@ -81,7 +86,8 @@ fn is_lower<S: Scalar>(v: &Row<S>, left: S, w: &Row<S>, right: S, x: &Row<S>, t:
     requires within { t < length v.now }
     requires finite { entry S.ring x.now t ≢ S.ring.zero }
     requires size { row_size S.ring x.now ≤ 2 ^ 60 }
-    ensures { IsTrue result ↔ IsLower S.ring x.now t (joined S.ring (scaled S.ring left v.now) (scaled S.ring right w.now)) }
+    ensures { IsTrue result ↔ IsLower S.ring x.now t
+        (joined S.ring (scaled S.ring left v.now) (scaled S.ring right w.now)) }
 {
     let top = mixed_entry(v, left, w, right, t);
     if is_zero(top) {
@@ -113,7 +119,8 @@ fn gives_lower<S: Scalar>(
     requires within { t < length v.now }
     requires finite { entry S.ring x.now t ≢ S.ring.zero }
     requires size { row_size S.ring x.now ≤ 2 ^ 60 }
-    ensures { IsTrue result ↔ ((dot S.ring ineq.now.right v.now ≢ S.ring.zero) × IsLower S.ring x.now t (mixed S.ring ineq.now.left ineq.now.right v.now w.now)) }
+    ensures { IsTrue result ↔ ((dot S.ring ineq.now.right v.now ≢ S.ring.zero)
+        × IsLower S.ring x.now t (mixed S.ring ineq.now.left ineq.now.right v.now w.now)) }
 {
     if is_zero(right) {
         return false;
@@ -130,7 +137,8 @@ fn has_lower_with<S: Scalar>(
     x: &Row<S>,
     t: u32,
 ) -> bool
-    requires parts { AreParts S.ring parts.now.kept.n ineq.now parts.now.kept.rows parts.now.rights.items parts.now.dropped.rows }
+    requires parts { AreParts S.ring parts.now.kept.n ineq.now parts.now.kept.rows parts.now.rights.items
+        parts.now.dropped.rows }
     requires sum { left ≡ dot S.ring ineq.now.left w.now }
     requires lengths { length w.now ≡ parts.now.kept.n }
     requires w_size { row_size S.ring w.now ≤ 2 ^ 57 }
@@ -158,14 +166,16 @@ fn meets_with_lower<S: Scalar>(
     x: &Row<S>,
     t: u32,
 ) -> bool
-    requires parts { AreParts S.ring parts.now.kept.n ineq.now parts.now.kept.rows parts.now.rights.items parts.now.dropped.rows }
+    requires parts { AreParts S.ring parts.now.kept.n ineq.now parts.now.kept.rows parts.now.rights.items
+        parts.now.dropped.rows }
     requires lengths { length w.now ≡ parts.now.kept.n }
     requires w_size { row_size S.ring w.now ≤ 2 ^ 57 }
     requires long { length x.now ≡ parts.now.kept.n }
     requires within { t < parts.now.kept.n }
     requires finite { entry S.ring x.now t ≢ S.ring.zero }
     requires size { row_size S.ring x.now ≤ 2 ^ 60 }
-    ensures { IsTrue result ↔ (Meets S.ring x.now t w.now × HasLowerWith S.ring ineq.now parts.now.kept.rows x.now t w.now) }
+    ensures { IsTrue result ↔ (Meets S.ring x.now t w.now
+        × HasLowerWith S.ring ineq.now parts.now.kept.rows x.now t w.now) }
 {
     if !meets(w, x, t) {
         return false;
@@ -175,7 +185,8 @@ fn meets_with_lower<S: Scalar>(
 
 // Whether some kept row and some dropped row that meets x at t give a mixed row that is lower than x at t.
 pub fn has_lower<S: Scalar>(ineq: &Ineq<S>, parts: &Parts<S>, x: &Row<S>, t: u32) -> bool
-    requires parts { AreParts S.ring parts.now.kept.n ineq.now parts.now.kept.rows parts.now.rights.items parts.now.dropped.rows }
+    requires parts { AreParts S.ring parts.now.kept.n ineq.now parts.now.kept.rows parts.now.rights.items
+        parts.now.dropped.rows }
     requires long { length x.now ≡ parts.now.kept.n }
     requires within { t < parts.now.kept.n }
     requires finite { entry S.ring x.now t ≢ S.ring.zero }

@@ -25,8 +25,8 @@ type NoMemory = AllocError;
 // The most rows that a cone may have.
 const ROW_LIMIT: usize = 4096;
 
-// Puts the mixed row of a kept row with a finite right side and a dropped row to those that were found, where it is a new
-// extreme row.
+// Puts the mixed row of a kept row with a finite right side and a dropped row to those that were found, where it is a
+// new extreme row.
 fn try_pair<S: Scalar>(
     alloc: Global,
     ineq: &Ineq<S>,
@@ -35,17 +35,22 @@ fn try_pair<S: Scalar>(
     w: &Row<S>,
     found: &mut Vec<Row<S>>,
 ) -> Result<(), GuardErr>
-    requires parts { AreParts S.ring parts.now.kept.n ineq.now parts.now.kept.rows parts.now.rights.items parts.now.dropped.rows }
+    requires parts { AreParts S.ring parts.now.kept.n ineq.now parts.now.kept.rows parts.now.rights.items
+        parts.now.dropped.rows }
     requires v { Contains parts.now.kept.rows v.now }
     requires w { Contains parts.now.dropped.rows w.now }
     requires finite { dot S.ring ineq.now.right v.now ≢ S.ring.zero }
-    requires found { AreFound S.ring parts.now.kept.n ineq.now parts.now.kept.rows parts.now.dropped.rows found.old.items }
+    requires found { AreFound S.ring parts.now.kept.n ineq.now parts.now.kept.rows parts.now.dropped.rows
+        found.old.items }
     requires within { length found.old.items ≤ row_limit }
-    ensures found { OnOk result (AreFound S.ring parts.now.kept.n ineq.now parts.now.kept.rows parts.now.dropped.rows found.new.items) }
+    ensures found { OnOk result (AreFound S.ring parts.now.kept.n ineq.now parts.now.kept.rows parts.now.dropped.rows
+        found.new.items) }
     ensures stay { OnOk result (All (Contains found.new.items) found.old.items) }
-    ensures mixed { OnOk result (HasMixed S.ring parts.now.kept.n ineq.now parts.now.kept.rows parts.now.dropped.rows found.new.items v.now w.now) }
+    ensures mixed { OnOk result (HasMixed S.ring parts.now.kept.n ineq.now parts.now.kept.rows parts.now.dropped.rows
+        found.new.items v.now w.now) }
     ensures within { OnOk result (length found.new.items ≤ row_limit) }
-    ensures refused { IfErr result (IsRefusedBy S.ring (Smaller S.ring parts.now.kept.n ineq.now parts.now.kept.rows parts.now.dropped.rows)) }
+    ensures refused { IfErr result (IsRefusedBy S.ring
+        (Smaller S.ring parts.now.kept.n ineq.now parts.now.kept.rows parts.now.dropped.rows)) }
 {
     let x = mixed_row(alloc, v, w, ineq)?;
     if is_fresh(ineq, parts, &x) {
@@ -65,16 +70,21 @@ fn try_dropped<S: Scalar>(
     v: &Row<S>,
     found: &mut Vec<Row<S>>,
 ) -> Result<(), GuardErr>
-    requires parts { AreParts S.ring parts.now.kept.n ineq.now parts.now.kept.rows parts.now.rights.items parts.now.dropped.rows }
+    requires parts { AreParts S.ring parts.now.kept.n ineq.now parts.now.kept.rows parts.now.rights.items
+        parts.now.dropped.rows }
     requires v { Contains parts.now.kept.rows v.now }
     requires finite { dot S.ring ineq.now.right v.now ≢ S.ring.zero }
-    requires found { AreFound S.ring parts.now.kept.n ineq.now parts.now.kept.rows parts.now.dropped.rows found.old.items }
+    requires found { AreFound S.ring parts.now.kept.n ineq.now parts.now.kept.rows parts.now.dropped.rows
+        found.old.items }
     requires within { length found.old.items ≤ row_limit }
-    ensures found { OnOk result (AreFound S.ring parts.now.kept.n ineq.now parts.now.kept.rows parts.now.dropped.rows found.new.items) }
+    ensures found { OnOk result (AreFound S.ring parts.now.kept.n ineq.now parts.now.kept.rows parts.now.dropped.rows
+        found.new.items) }
     ensures stay { OnOk result (All (Contains found.new.items) found.old.items) }
-    ensures mixed { OnOk result (All (HasMixed S.ring parts.now.kept.n ineq.now parts.now.kept.rows parts.now.dropped.rows found.new.items v.now) parts.now.dropped.rows) }
+    ensures mixed { OnOk result (All (HasMixed S.ring parts.now.kept.n ineq.now parts.now.kept.rows
+        parts.now.dropped.rows found.new.items v.now) parts.now.dropped.rows) }
     ensures within { OnOk result (length found.new.items ≤ row_limit) }
-    ensures refused { IfErr result (IsRefusedBy S.ring (Smaller S.ring parts.now.kept.n ineq.now parts.now.kept.rows parts.now.dropped.rows)) }
+    ensures refused { IfErr result (IsRefusedBy S.ring
+        (Smaller S.ring parts.now.kept.n ineq.now parts.now.kept.rows parts.now.dropped.rows)) }
 {
     for w in parts.dropped.as_slice() {
         try_pair(alloc, ineq, parts, v, w, found)?;
@@ -91,16 +101,21 @@ fn try_kept<S: Scalar>(
     right: S,
     found: &mut Vec<Row<S>>,
 ) -> Result<(), GuardErr>
-    requires parts { AreParts S.ring parts.now.kept.n ineq.now parts.now.kept.rows parts.now.rights.items parts.now.dropped.rows }
+    requires parts { AreParts S.ring parts.now.kept.n ineq.now parts.now.kept.rows parts.now.rights.items
+        parts.now.dropped.rows }
     requires v { Contains parts.now.kept.rows v.now }
     requires right { right ≡ dot S.ring ineq.now.right v.now }
-    requires found { AreFound S.ring parts.now.kept.n ineq.now parts.now.kept.rows parts.now.dropped.rows found.old.items }
+    requires found { AreFound S.ring parts.now.kept.n ineq.now parts.now.kept.rows parts.now.dropped.rows
+        found.old.items }
     requires within { length found.old.items ≤ row_limit }
-    ensures found { OnOk result (AreFound S.ring parts.now.kept.n ineq.now parts.now.kept.rows parts.now.dropped.rows found.new.items) }
+    ensures found { OnOk result (AreFound S.ring parts.now.kept.n ineq.now parts.now.kept.rows parts.now.dropped.rows
+        found.new.items) }
     ensures stay { OnOk result (All (Contains found.new.items) found.old.items) }
-    ensures mixed { OnOk result (All (HasMixed S.ring parts.now.kept.n ineq.now parts.now.kept.rows parts.now.dropped.rows found.new.items v.now) parts.now.dropped.rows) }
+    ensures mixed { OnOk result (All (HasMixed S.ring parts.now.kept.n ineq.now parts.now.kept.rows
+        parts.now.dropped.rows found.new.items v.now) parts.now.dropped.rows) }
     ensures within { OnOk result (length found.new.items ≤ row_limit) }
-    ensures refused { IfErr result (IsRefusedBy S.ring (Smaller S.ring parts.now.kept.n ineq.now parts.now.kept.rows parts.now.dropped.rows)) }
+    ensures refused { IfErr result (IsRefusedBy S.ring
+        (Smaller S.ring parts.now.kept.n ineq.now parts.now.kept.rows parts.now.dropped.rows)) }
 {
     if is_zero(right) {
         return Ok(());
@@ -115,13 +130,18 @@ fn try_all<S: Scalar>(
     parts: &Parts<S>,
     found: &mut Vec<Row<S>>,
 ) -> Result<(), GuardErr>
-    requires parts { AreParts S.ring parts.now.kept.n ineq.now parts.now.kept.rows parts.now.rights.items parts.now.dropped.rows }
-    requires found { AreFound S.ring parts.now.kept.n ineq.now parts.now.kept.rows parts.now.dropped.rows found.old.items }
+    requires parts { AreParts S.ring parts.now.kept.n ineq.now parts.now.kept.rows parts.now.rights.items
+        parts.now.dropped.rows }
+    requires found { AreFound S.ring parts.now.kept.n ineq.now parts.now.kept.rows parts.now.dropped.rows
+        found.old.items }
     requires within { length found.old.items ≤ row_limit }
-    ensures found { OnOk result (AreFound S.ring parts.now.kept.n ineq.now parts.now.kept.rows parts.now.dropped.rows found.new.items) }
-    ensures mixed { OnOk result (All (λ v. All (HasMixed S.ring parts.now.kept.n ineq.now parts.now.kept.rows parts.now.dropped.rows found.new.items v) parts.now.dropped.rows) parts.now.kept.rows) }
+    ensures found { OnOk result (AreFound S.ring parts.now.kept.n ineq.now parts.now.kept.rows parts.now.dropped.rows
+        found.new.items) }
+    ensures mixed { OnOk result (All (λ v. All (HasMixed S.ring parts.now.kept.n ineq.now parts.now.kept.rows
+        parts.now.dropped.rows found.new.items v) parts.now.dropped.rows) parts.now.kept.rows) }
     ensures within { OnOk result (length found.new.items ≤ row_limit) }
-    ensures refused { IfErr result (IsRefusedBy S.ring (Smaller S.ring parts.now.kept.n ineq.now parts.now.kept.rows parts.now.dropped.rows)) }
+    ensures refused { IfErr result (IsRefusedBy S.ring
+        (Smaller S.ring parts.now.kept.n ineq.now parts.now.kept.rows parts.now.dropped.rows)) }
 {
     let rows = parts.kept.as_slice();
     let rights = parts.rights.as_slice();
@@ -153,8 +173,10 @@ pub fn guard<S: Scalar>(alloc: Global, gens: &Gens<S>, ineq: &Ineq<S>) -> Result
     requires sizes { rows_size S.ring gens.now.rows ≤ 2 ^ 57 }
     requires size { inequality_size S.ring ineq.now ≤ 2 ^ 49 }
     ensures width { IfOk result (λ out. out.n ≡ gens.now.n) }
-    ensures holds { IfOk result (λ out. Represents S.ring gens.now.n (InGuard S.ring (IsCombination S.ring gens.now.n gens.now.rows) ineq.now) out.rows) }
-    ensures refused { IfErr result (IsRefusedBy S.ring (InGuard S.ring (IsCombination S.ring gens.now.n gens.now.rows) ineq.now)) }
+    ensures holds { IfOk result (λ out. Represents S.ring gens.now.n
+        (InGuard S.ring (IsCombination S.ring gens.now.n gens.now.rows) ineq.now) out.rows) }
+    ensures refused { IfErr result (IsRefusedBy S.ring
+        (InGuard S.ring (IsCombination S.ring gens.now.n gens.now.rows) ineq.now)) }
 {
     let parts = part(alloc, gens, ineq)?;
     let mut found = copies(alloc, parts.kept.as_slice())?;

@@ -90,7 +90,8 @@ pub fn part<S: Scalar>(alloc: Global, gens: &Gens<S>, ineq: &Ineq<S>) -> Result<
     ensures kept_width { IfOk result (λ parts. parts.kept.n ≡ gens.now.n) }
     ensures dropped_width { IfOk result (λ parts. parts.dropped.n ≡ gens.now.n) }
     ensures kept { IfOk result (λ parts. AreChosen (IsTrueAt S.ring ineq.now) gens.now.rows parts.kept.rows) }
-    ensures dropped { IfOk result (λ parts. AreChosen (λ w. IsTrueAt S.ring ineq.now w → ⊥) gens.now.rows parts.dropped.rows) }
+    ensures dropped { IfOk result (λ parts. AreChosen (λ w. IsTrueAt S.ring ineq.now w → ⊥) gens.now.rows
+        parts.dropped.rows) }
     ensures rights { IfOk result (λ parts. parts.rights.items ≡ map (dot S.ring ineq.now.right) parts.kept.rows) }
     ensures wide { IfOk result (λ _. AreWide gens.now.n gens.now.rows) }
 {

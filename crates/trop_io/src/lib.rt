@@ -2,11 +2,9 @@
 //! check.
 //!
 //! A [`Source`] gives bytes and a [`Sink`] takes them. Each keeps a count of its faults, and says, where it knows them,
-//! which
-//! bytes are left or held. [`read_all`] and [`write_all`] go over any of them; [`MemSource`], [`MemSink`],
-//! [`SureSource`] and
-//! [`SureSink`] are in memory, for tests and for callers that have the bytes; [`StdSource`] and [`StdSink`] adapt
-//! std's.
+//! which bytes are left or held. [`read_all`] and [`write_all`] go over any of them; [`MemSource`], [`MemSink`],
+//! [`SureSource`] and [`SureSink`] are in memory, for tests and for callers that have the bytes; [`StdSource`] and
+//! [`StdSink`] adapt std's.
 //!
 //! Counts are `u64` and stay at their last value, so "the count rose" means: it is greater than before, or at its last
 //! value.

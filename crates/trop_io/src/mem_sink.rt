@@ -14,8 +14,7 @@ use std::marker::Model;
 /// A sink in memory with a fixed room, which takes pieces, and whose writes fail by their numbers.
 ///
 /// Contracts see the bytes that it holds, its room, the greatest piece, the numbers of the writes that fail, how many
-/// writes
-/// were made and how many of them failed. Writes of an empty piece aren't counted.
+/// writes were made and how many of them failed. Writes of an empty piece aren't counted.
 #[derive(Drop)]
 pub struct MemSink {
     bytes: Vec<u8>,
@@ -44,8 +43,7 @@ impl Model for MemSink {
 
 impl MemSink {
     /// An empty sink that takes its `room` at once, takes at most `piece` bytes a write, and whose writes with the
-    /// numbers in
-    /// `failing`, counted from 1, fail. A write that finds no room left fails too.
+    /// numbers in `failing`, counted from 1, fail. A write that finds no room left fails too.
     pub fn new(
         alloc: Global,
         room: usize,

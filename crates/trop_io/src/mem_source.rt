@@ -13,8 +13,7 @@ use std::marker::Model;
 /// Bytes in memory that come in pieces, and reads that fail by their numbers.
 ///
 /// Contracts see the bytes that are left, the greatest piece, the numbers of the reads that fail, how many reads were
-/// made and
-/// how many of them failed.
+/// made and how many of them failed.
 #[derive(Drop)]
 pub struct MemSource {
     bytes: Vec<u8>,
@@ -42,8 +41,7 @@ impl Model for MemSource {
 
 impl MemSource {
     /// A source of `bytes` that gives at most `piece` of them a read, and whose reads with the numbers in `failing`,
-    /// counted
-    /// from 1, fail.
+    /// counted from 1, fail.
     pub fn new(bytes: Vec<u8>, piece: usize, failing: Vec<u64>) -> Self
         requires { 0 < piece }
         ensures { result ≡ record { left = bytes.items; piece = piece; failing = failing.items; calls = 0; faults = 0 } }

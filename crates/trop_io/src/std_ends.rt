@@ -13,8 +13,7 @@ use std::io::{Read, Write};
 use std::marker::Model;
 
 /// A reader of std, each of which is one. What a call may answer is a relation, so that the contract of [`StdSource`]
-/// can
-/// say that an answer of the reader was handed on, and none was made up.
+/// can say that an answer of the reader was handed on, and none was made up.
 pub trait StdRead {
     /// The bytes that are left, where the reader tells.
     ghost remaining: { Self → Option (List ℕ) };
@@ -113,8 +112,7 @@ impl<W: Write> StdWrite for W {
 }
 
 /// A writer of std that counts its errors. It tells what the writer tells. A write that takes no byte of a piece that
-/// isn't
-/// empty counts as an error, and an empty piece isn't handed on.
+/// isn't empty counts as an error, and an empty piece isn't handed on.
 ///
 /// Contracts see the writer and the count.
 #[derive(Drop)]

@@ -43,3 +43,24 @@ fn readers_and_writers_of_std(rt: HostRuntime) -> Result<(), Fail> {
     assert!(rt; wrote == Err(WriteFault));
     Ok(())
 }
+
+#[test]
+fn errors_print_their_cause(rt: HostRuntime) -> Result<(), Fail> {
+    let alloc = rt.alloc();
+    let (fault, long, memory) = (
+        ReadAllErr::ReadFault,
+        ReadAllErr::TooLong,
+        ReadAllErr::NoMemory,
+    );
+    let texts = [
+        (format!(in alloc; "{Failed}")?, "the stream failed"),
+        (format!(in alloc; "{WriteFault}")?, "write failed"),
+        (format!(in alloc; "{fault}")?, "read failed"),
+        (format!(in alloc; "{long}")?, "longer than the limit"),
+        (format!(in alloc; "{memory}")?, "out of memory"),
+    ];
+    for (text, wanted) in &texts {
+        assert_eq!(rt; text.as_str(), *wanted);
+    }
+    Ok(())
+}

@@ -13,8 +13,7 @@ use thiserror::Error;
 pub struct WriteFault;
 
 /// Writes all bytes. It takes no memory. No failed write is tried again: the sink's count of faults is as before, but
-/// with
-/// the error.
+/// with the error.
 ///
 /// Errors: [`WriteFault`] only where the sink's count of faults rose in this call.
 pub fn write_all<O: Sink>(sink: &mut O, bytes: &[u8]) -> Result<(), WriteFault>

@@ -1,4 +1,7 @@
 -- Fronts of systems, within the limit or stopped, as they grow.
+-- Index: same_inequality, size_at, size_push, size_append, size_drop, size_slice, inside_at, front_short,
+-- front_and_rest, slice_is, no_front, front_and_slice, front_push, whole_front, pushed_more, pushed_rest, fronts_none,
+-- fronts_push, fronts_as, fronts_no_stop, stops_longer, stopped_longer, stopped_as, refused_there.
 use Rattle.std.proofs.Common.{◌≡◌, ◌<◌, ◌≤◌, ◌+◌, ◌-◌, ℕ, zero, suc, List, [], ◌∷◌, ◌++◌, length, take, drop, get_or, ⊎_elim, sym, ap, ◌∙◌, refl, arith, subst}
 use Rattle.std.specs.Prelude.{All}
 use Rattle.std.proofs.lemmas.Bool.{cases_lt}
@@ -15,42 +18,51 @@ use Rattle.trop_lean.specs.Fronts.{AreFrontsWithin, IsStoppedAt}
 
 -- ---- copies and sizes
 pub same_inequality : {V : Type 0} (p q : Inequality V) → p.left ≡ q.left → p.right ≡ q.right → p ≡ q
-same_inequality p q e f = ap (λ l. record { left = l; right = p.right }) e ∙ ap (λ r. record { left = q.left; right = r }) f
+same_inequality p q e f = ap (λ l. record { left = l; right = p.right }) e
+    ∙ ap (λ r. record { left = q.left; right = r }) f
 
-pub size_at : {V : Type 0} (R : Semiring V) (system : List (Inequality V)) (i : ℕ) (p : Inequality V) → i < length system → p ≡ get_or system i p → inequality_size R p ≤ system_size R system
+pub size_at : {V : Type 0} (R : Semiring V) (system : List (Inequality V)) (i : ℕ) (p : Inequality V) →
+    i < length system → p ≡ get_or system i p → inequality_size R p ≤ system_size R system
 size_at R [] i p l e = absurd (omega arith)
 size_at R (q ∷ system) zero p l e = omega (arith, ap (inequality_size R) e)
 size_at R (q ∷ system) (suc i) p l e = omega (arith, size_at R system i p (omega arith) e)
 
-pub size_push : {V : Type 0} (R : Semiring V) (system : List (Inequality V)) (p : Inequality V) (m : ℕ) → system_size R system ≤ m → inequality_size R p ≤ m → system_size R (system ++ p ∷ []) ≤ m
+pub size_push : {V : Type 0} (R : Semiring V) (system : List (Inequality V)) (p : Inequality V) (m : ℕ) →
+    system_size R system ≤ m → inequality_size R p ≤ m → system_size R (system ++ p ∷ []) ≤ m
 size_push R [] p m h l = omega arith
 size_push R (q ∷ system) p m h l = omega (arith, size_push R system p m (omega arith) l)
 
-pub size_append : {V : Type 0} (R : Semiring V) (system more : List (Inequality V)) (m : ℕ) → system_size R system ≤ m → system_size R more ≤ m → system_size R (system ++ more) ≤ m
+pub size_append : {V : Type 0} (R : Semiring V) (system more : List (Inequality V)) (m : ℕ) → system_size R system ≤ m →
+    system_size R more ≤ m → system_size R (system ++ more) ≤ m
 size_append R [] more m h l = l
 size_append R (q ∷ system) more m h l = omega (arith, size_append R system more m (omega arith) l)
 
-size_take : {V : Type 0} (R : Semiring V) (k : ℕ) (system : List (Inequality V)) → system_size R (take k system) ≤ system_size R system
+size_take : {V : Type 0} (R : Semiring V) (k : ℕ) (system : List (Inequality V)) →
+    system_size R (take k system) ≤ system_size R system
 size_take R zero system = omega arith
 size_take R (suc k) [] = omega arith
 size_take R (suc k) (q ∷ system) = omega (arith, size_take R k system)
 
-pub size_drop : {V : Type 0} (R : Semiring V) (k : ℕ) (system : List (Inequality V)) → system_size R (drop k system) ≤ system_size R system
+pub size_drop : {V : Type 0} (R : Semiring V) (k : ℕ) (system : List (Inequality V)) →
+    system_size R (drop k system) ≤ system_size R system
 size_drop R zero system = omega arith
 size_drop R (suc k) [] = omega arith
 size_drop R (suc k) (q ∷ system) = omega (arith, size_drop R k system)
 
-pub size_slice : {V : Type 0} (R : Semiring V) (m k : ℕ) (system : List (Inequality V)) → system_size R (take m (drop k system)) ≤ system_size R system
+pub size_slice : {V : Type 0} (R : Semiring V) (m k : ℕ) (system : List (Inequality V)) →
+    system_size R (take m (drop k system)) ≤ system_size R system
 size_slice R m k system = omega (arith, size_take R m (drop k system), size_drop R k system)
 
-pub inside_at : {V : Type 0} (n : ℕ) (system : List (Inequality V)) (i : ℕ) (p : Inequality V) → All (IsIn n) system → i < length system → p ≡ get_or system i p → IsIn n p
+pub inside_at : {V : Type 0} (n : ℕ) (system : List (Inequality V)) (i : ℕ) (p : Inequality V) → All (IsIn n) system →
+    i < length system → p ≡ get_or system i p → IsIn n p
 inside_at n system i p h l e = subst (IsIn n) (sym e) (h i p l)
 
 -- ---- a front of a list
 pub front_short : {X : Type 0} (front whole : List X) → front ≡ take (length front) whole → length front ≤ length whole
 front_short front whole e = omega (arith, ap length e, length-take (length front) whole)
 
-pub front_and_rest : {X : Type 0} (front whole : List X) → front ≡ take (length front) whole → front ++ drop (length front) whole ≡ whole
+pub front_and_rest : {X : Type 0} (front whole : List X) → front ≡ take (length front) whole →
+    front ++ drop (length front) whole ≡ whole
 front_and_rest front whole e = ap (λ f. f ++ drop (length front) whole) e ∙ take-append-drop (length front) whole
 
 pub slice_is : {X : Type 0} (whole : List X) (k : ℕ) → take (length whole - k) (drop k whole) ≡ drop k whole
@@ -61,26 +73,32 @@ pub no_front : {X : Type 0} (front whole : List X) → front ≡ [] → front �
 no_front front whole e = subst (λ f. f ≡ take (length f) whole) (sym e) refl
 
 -- what follows a front is the slice from its length on
-pub front_and_slice : {X : Type 0} (front whole : List X) (k : ℕ) → k ≡ length front → front ≡ take (length front) whole → front ++ take (length whole - k) (drop k whole) ≡ whole
+pub front_and_slice : {X : Type 0} (front whole : List X) (k : ℕ) → k ≡ length front →
+    front ≡ take (length front) whole → front ++ take (length whole - k) (drop k whole) ≡ whole
 front_and_slice front whole k at e =
     ap (λ s. front ++ s) (take_all (length whole - k) (drop k whole) (omega (arith, length-drop k whole)))
     ∙ ap (λ i. front ++ drop i whole) at
     ∙ front_and_rest front whole e
 
-pub front_push : {X : Type 0} (front whole : List X) (p : X) → front ≡ take (length front) whole → front ≡ take (length front) (whole ++ p ∷ [])
+pub front_push : {X : Type 0} (front whole : List X) (p : X) → front ≡ take (length front) whole →
+    front ≡ take (length front) (whole ++ p ∷ [])
 front_push front whole p e = e ∙ sym (take-append-le (length front) whole (p ∷ []) (front_short front whole e))
 
 pub whole_front : {X : Type 0} (whole : List X) → whole ≡ take (length whole) whole
 whole_front whole = sym (take_all (length whole) whole (omega arith))
 
 -- what is pushed on so far, and one more of it
-pub pushed_more : {X : Type 0} (first more now : List X) (i : ℕ) (p : X) → i < length more → p ≡ get_or more i p → now ≡ first ++ take i more → now ++ p ∷ [] ≡ first ++ take (i + 1) more
+pub pushed_more : {X : Type 0} (first more now : List X) (i : ℕ) (p : X) → i < length more → p ≡ get_or more i p →
+    now ≡ first ++ take i more → now ++ p ∷ [] ≡ first ++ take (i + 1) more
 pushed_more first more now i p l e h =
-    ap (λ s. s ++ p ∷ []) h ∙ append_assoc first (take i more) (p ∷ []) ∙ ap (λ q. first ++ (take i more ++ q ∷ [])) e ∙ ap (λ s. first ++ s) (sym (take_more more i p l))
+    ap (λ s. s ++ p ∷ []) h ∙ append_assoc first (take i more) (p ∷ []) ∙ ap (λ q. first ++ (take i more ++ q ∷ [])) e
+    ∙ ap (λ s. first ++ s) (sym (take_more more i p l))
 
-pub pushed_rest : {X : Type 0} (first more now : List X) (i : ℕ) (p : X) → i < length more → p ≡ get_or more i p → now ≡ first ++ take i more → (now ++ p ∷ []) ++ drop (i + 1) more ≡ first ++ more
+pub pushed_rest : {X : Type 0} (first more now : List X) (i : ℕ) (p : X) → i < length more → p ≡ get_or more i p →
+    now ≡ first ++ take i more → (now ++ p ∷ []) ++ drop (i + 1) more ≡ first ++ more
 pushed_rest first more now i p l e h =
-    ap (λ s. s ++ drop (i + 1) more) (pushed_more first more now i p l e h) ∙ append_assoc first (take (i + 1) more) (drop (i + 1) more) ∙ ap (λ s. first ++ s) (take-append-drop (i + 1) more)
+    ap (λ s. s ++ drop (i + 1) more) (pushed_more first more now i p l e h) ∙ append_assoc first (take (i + 1) more)
+    (drop (i + 1) more) ∙ ap (λ s. first ++ s) (take-append-drop (i + 1) more)
 
 module _ {V : Type 0} (R : Semiring V) (n : ℕ) where
   -- ---- fronts within the limit
@@ -88,43 +106,57 @@ module _ {V : Type 0} (R : Semiring V) (n : ℕ) where
   fronts_none rows h zero l o = within_limit R (Solves R n []) rows h.canonical h.within o
   fronts_none rows h (suc j) l o = absurd (omega arith)
 
-  pub fronts_push : (system : List (Inequality V)) (p : Inequality V) → AreFrontsWithin R n system → (IsOverLimit R (Solves R n (system ++ p ∷ [])) → ⊥) → AreFrontsWithin R n (system ++ p ∷ [])
+  pub fronts_push : (system : List (Inequality V)) (p : Inequality V) → AreFrontsWithin R n system →
+      (IsOverLimit R (Solves R n (system ++ p ∷ [])) → ⊥) → AreFrontsWithin R n (system ++ p ∷ [])
   fronts_push system p h new j l o = ⊎_elim
-      (λ a. let short : j ≤ length system = omega arith in h j short (subst (λ s. IsOverLimit R (Solves R n s)) (take-append-le j system (p ∷ []) short) o))
-      (λ a. new (subst (λ s. IsOverLimit R (Solves R n s)) (take_all j (system ++ p ∷ []) (omega (arith, length_push system p))) o))
+      (λ a. let short : j ≤ length system = omega arith in
+      h j short (subst (λ s. IsOverLimit R (Solves R n s)) (take-append-le j system (p ∷ []) short) o))
+      (λ a. new (subst (λ s. IsOverLimit R (Solves R n s))
+      (take_all j (system ++ p ∷ []) (omega (arith, length_push system p))) o))
       (cases_lt j (length system + 1))
 
   pub fronts_as : (m : ℕ) (s t : List (Inequality V)) → m ≡ n → s ≡ t → AreFrontsWithin R n t → AreFrontsWithin R m s
   fronts_as m s t em es h = subst (λ k. AreFrontsWithin R k s) (sym em) (subst (AreFrontsWithin R n) (sym es) h)
 
   -- where each front is within the limit, nothing stops
-  pub fronts_no_stop : (system : List (Inequality V)) → AreFrontsWithin R n system → (j : ℕ) → IsRowsStop R n system j → ⊥
+  pub fronts_no_stop : (system : List (Inequality V)) → AreFrontsWithin R n system → (j : ℕ) → IsRowsStop R n system j →
+      ⊥
   fronts_no_stop system h j s = h j s.within s.over
 
   -- ---- stops
   -- what stops a front stops the whole
-  pub stops_longer : (system more : List (Inequality V)) (k : ℕ) → IsRowsStop R n system k → IsRowsStop R n (system ++ more) k
+  pub stops_longer : (system more : List (Inequality V)) (k : ℕ) → IsRowsStop R n system k →
+      IsRowsStop R n (system ++ more) k
   stops_longer system more k s = record {
     within = omega (arith, s.within, length-append system more);
     over = subst (λ t. IsOverLimit R (Solves R n t)) (sym (take-append-le k system more s.within)) s.over;
-    least = λ j l o. s.least j l (subst (λ t. IsOverLimit R (Solves R n t)) (take-append-le j system more (omega (arith, s.within))) o);
+    least = λ j l o. s.least j l (subst (λ t. IsOverLimit R (Solves R n t))
+        (take-append-le j system more (omega (arith, s.within))) o);
   }
 
-  pub stopped_longer : (system more whole : List (Inequality V)) (err : DdErr) → system ++ more ≡ whole → IsStoppedAt R n system err → IsStoppedAt R n whole err
+  pub stopped_longer : (system more whole : List (Inequality V)) (err : DdErr) → system ++ more ≡ whole →
+      IsStoppedAt R n system err → IsStoppedAt R n whole err
   stopped_longer system more whole NoMemory e s = tt
   stopped_longer system more whole (Limit k) e s = subst (λ t. IsRowsStop R n t k) e (stops_longer system more k s)
 
-  pub stopped_as : (m : ℕ) (s t : List (Inequality V)) (err : DdErr) → m ≡ n → s ≡ t → IsStoppedAt R m s err → IsStoppedAt R n t err
+  pub stopped_as : (m : ℕ) (s t : List (Inequality V)) (err : DdErr) → m ≡ n → s ≡ t → IsStoppedAt R m s err →
+      IsStoppedAt R n t err
   stopped_as m s t err em es h = subst (λ k. IsStoppedAt R k t err) em (subst (λ u. IsStoppedAt R m u err) es h)
 
   -- one inequality too many
-  stops_there : (system : List (Inequality V)) (p : Inequality V) (k : ℕ) → AreFrontsWithin R n system → k ≡ length (system ++ p ∷ []) → IsOverLimit R (Solves R n (system ++ p ∷ [])) → IsRowsStop R n (system ++ p ∷ []) k
+  stops_there : (system : List (Inequality V)) (p : Inequality V) (k : ℕ) → AreFrontsWithin R n system →
+      k ≡ length (system ++ p ∷ []) → IsOverLimit R (Solves R n (system ++ p ∷ [])) →
+      IsRowsStop R n (system ++ p ∷ []) k
   stops_there system p k h e o = record {
     within = omega arith;
     over = subst (λ t. IsOverLimit R (Solves R n t)) (sym (take_all k (system ++ p ∷ []) (omega arith))) o;
-    least = λ j l over. let short : j ≤ length system = omega (arith, length_push system p) in h j short (subst (λ t. IsOverLimit R (Solves R n t)) (take-append-le j system (p ∷ []) short) over);
+    least = λ j l over. let short : j ≤ length system = omega (arith, length_push system p) in
+        h j short (subst (λ t. IsOverLimit R (Solves R n t)) (take-append-le j system (p ∷ []) short) over);
   }
 
-  pub refused_there : (system more whole : List (Inequality V)) (p : Inequality V) (err : DdErr) → (system ++ p ∷ []) ++ more ≡ whole → AreFrontsWithin R n system → IsRefusedBy R n (system ++ p ∷ []) err → IsStoppedAt R n whole err
+  pub refused_there : (system more whole : List (Inequality V)) (p : Inequality V) (err : DdErr) →
+      (system ++ p ∷ []) ++ more ≡ whole → AreFrontsWithin R n system → IsRefusedBy R n (system ++ p ∷ []) err →
+      IsStoppedAt R n whole err
   refused_there system more whole p NoMemory e h r = tt
-  refused_there system more whole p (Limit k) e h r = subst (λ t. IsRowsStop R n t k) e (stops_longer (system ++ p ∷ []) more k (stops_there system p k h r.0 r.1))
+  refused_there system more whole p (Limit k) e h r =
+      subst (λ t. IsRowsStop R n t k) e (stops_longer (system ++ p ∷ []) more k (stops_there system p k h r.0 r.1))

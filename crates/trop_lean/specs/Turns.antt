@@ -12,7 +12,8 @@ pub record IsFirstFalse {V : Type 0} (R : Semiring V) (p : Inequality V) (rows :
 
 -- The turn of p, by the solutions of the rest: one that is valid there leaves the list as it was, any other stands
 -- behind those of the list, with the first row at which it fails.
-abbrev pub IsTurn : {V : Type 0} → Semiring V → ℕ → List (Inequality V) → Inequality V → List (Inequality V) → List (List V) → List (Inequality V) → List (List V) → Type 0
+abbrev pub IsTurn : {V : Type 0} → Semiring V → ℕ → List (Inequality V) → Inequality V → List (Inequality V) →
+    List (List V) → List (Inequality V) → List (List V) → Type 0
 IsTurn {V} R n rest p kept rows kept' rows' =
     (IsValidOn R (Solves R n rest) p × (kept' ≡ kept) × (rows' ≡ rows))
     ⊎ ((w : List V) × FailsFirst R (Solves R n rest) p w × (kept' ≡ kept ++ p ∷ []) × (rows' ≡ rows ++ w ∷ []))

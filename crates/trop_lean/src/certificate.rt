@@ -37,13 +37,15 @@ fn fails_alone<S: Scalar>(kept: &[Ineq<S>], row: &Row<S>, k: usize) -> bool
     true
 }
 
-/// Whether there is one row for each inequality, which makes this one false and each other one true. Where it is so, none
-/// of the inequalities follows from the others.
+/// Whether there is one row for each inequality, which makes this one false and each other one true. Where it is so,
+/// none of the inequalities follows from the others.
 pub fn certify<S: Scalar>(kept: &System<S>, rows: &Gens<S>) -> bool
     requires width { rows.now.n ≡ kept.now.n }
     requires sizes { system_size S.ring kept.now.inequalities + rows_size S.ring rows.now.rows ≤ 2 ^ 62 }
     ensures certified { IsTrue result ↔ Certifies S.ring kept.now.inequalities rows.now.rows }
-    ensures needed { OnTrue result ((k : ℕ) (p : Inequality S) → k < length kept.now.inequalities → IsValidOn S.ring (Solves S.ring kept.now.n (remove kept.now.inequalities k)) (slice_index_or kept.now.inequalities k p) → ⊥) }
+    ensures needed { OnTrue result ((k : ℕ) (p : Inequality S) → k < length kept.now.inequalities →
+        IsValidOn S.ring (Solves S.ring kept.now.n (remove kept.now.inequalities k))
+        (slice_index_or kept.now.inequalities k p) → ⊥) }
 {
     let inequalities = kept.as_slice();
     let rows = rows.as_slice();

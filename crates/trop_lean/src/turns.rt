@@ -79,7 +79,8 @@ fn turn<S: Scalar>(
     ensures base_fronts { OnOk result (AreFrontsWithin S.ring base.old.n list.old.kept.inequalities) }
     ensures kept_width { list.new.kept.n ≡ list.old.kept.n }
     ensures rows_width { list.new.rows.n ≡ list.old.rows.n }
-    ensures turn { OnOk result (IsTurn S.ring base.old.n (list.old.kept.inequalities ++ behind.now) ineq.now list.old.kept.inequalities list.old.rows.rows list.new.kept.inequalities list.new.rows.rows) }
+    ensures turn { OnOk result (IsTurn S.ring base.old.n (list.old.kept.inequalities ++ behind.now) ineq.now
+        list.old.kept.inequalities list.old.rows.rows list.new.kept.inequalities list.new.rows.rows) }
     ensures fronts { OnOk result (AreFrontsWithin S.ring base.old.n (list.old.kept.inequalities ++ behind.now)) }
     ensures stopped { IfErr result (IsStoppedAt S.ring base.old.n (list.old.kept.inequalities ++ behind.now)) }
     ensures looks { looks.old ≤ looks.new }
@@ -95,8 +96,9 @@ fn turn<S: Scalar>(
     Ok(())
 }
 
-/// The lean list of a system. Its inequalities are taken in order, and each is dropped where it is valid on the solutions
-/// of the rest, the system as it stands then without it. Else it stays, and its row is the first of the canonical list of
+/// The lean list of a system. Its inequalities are taken in order, and each is dropped where it is valid on the
+/// solutions of the rest, the system as it stands then without it. Else it stays, and its row is the first of the
+/// canonical list of
 /// the solutions of the rest at which it is false. The list has the solutions of the system, and each row makes its
 /// inequality false and the others true. `Rows(k, j)` comes exactly where `k` is the first turn, from 1, at which some
 /// front of the rest has more than 4,096 extreme rows, and the first `j` inequalities are the least such front.
@@ -108,8 +110,10 @@ pub fn lean<S: Scalar>(
     requires size { system_size S.ring system.now.inequalities ≤ 2 ^ 49 }
     ensures width { IfOk result (λ list. list.kept.n ≡ system.now.n) }
     ensures row_width { IfOk result (λ list. list.rows.n ≡ system.now.n) }
-    ensures lean { IfOk result (λ list. IsLean S.ring system.now.n system.now.inequalities list.kept.inequalities list.rows.rows) }
-    ensures same { IfOk result (λ list. (x : List S) → Solves S.ring system.now.n list.kept.inequalities x ↔ Solves S.ring system.now.n system.now.inequalities x) }
+    ensures lean { IfOk result (λ list. IsLean S.ring system.now.n system.now.inequalities list.kept.inequalities
+        list.rows.rows) }
+    ensures same { IfOk result (λ list. (x : List S) →
+        Solves S.ring system.now.n list.kept.inequalities x ↔ Solves S.ring system.now.n system.now.inequalities x) }
     ensures certified { IfOk result (λ list. Certifies S.ring list.kept.inequalities list.rows.rows) }
 
     // Every turn is within the limit, or the refusal names the first that is not.

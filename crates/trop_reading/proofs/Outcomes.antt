@@ -1,4 +1,6 @@
 -- From what a reader gives to what it promises, of a whole file or of a part of a source.
+-- Index: input_end_alone, start_is, spelled, answered, refused, not_answered, line_start_is, line_rest_is,
+-- read_in_line, answered_in_line, refused_in_line, not_answered_in_line.
 use Rattle.std.proofs.Common.{◌≡◌, ℕ, zero, suc, Bool, true, false, cond, List, [], ◌∷◌, ◌++◌, Ok, Err, refl, sym, ap, subst, ◌∙◌, ◌||◌, ◌==◌}
 use Rattle.trop_grammar.specs.Reading.{Reading, Miss}
 use Rattle.trop_grammar.specs.Grammar.{StartsWith}

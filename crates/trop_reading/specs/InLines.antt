@@ -10,8 +10,7 @@ pub record IsOnlyLine {A : Type 0} (G : List Piece → A → Type 0) (text : Lis
   pub line : G front x
 
 -- Of the tokens `old`, which are in this line or behind it, the first ones and the end of the line spell x; the others
--- are
--- the tokens `new`.
+-- are the tokens `new`.
 pub record IsReadInLine {A : Type 0} (R : List Piece → A → Type 0) (line : ℕ) (old : List Tok) (x : A)
     (new : List Tok) : Type 0 where
   pub front : List Piece

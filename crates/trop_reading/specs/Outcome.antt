@@ -16,8 +16,7 @@ AnswersWith view (Err errors.NoMemory) value = Unit {0}
 AnswersWith view (Err (errors.Fault f)) value = ⊥
 
 -- The first fault of these pieces of a source as a text of the grammar R, at its place. Its kind is what the judges of
--- the
--- reading function say of that piece.
+-- the reading function say of that piece.
 pub record IsFaultIn {A : Type 0} (R : List Piece → A → Type 0) (read : List Piece → Reading Piece FaultKind A)
     (bytes : List ℕ) (pieces : List Piece) (f : Fault) : Type 0 where
   pub kind : FaultKind

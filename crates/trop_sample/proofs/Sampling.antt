@@ -1,4 +1,6 @@
 -- Draws behind draws, and the sizes of samples.
+-- Index: state_after-add, next_is, draw_is, size_of_sample, length-sample_of, sample_room, inequality_inside,
+-- sample_next, state_next, left_next, right_next, left_length, right_length.
 use Rattle.std.proofs.Common.{◌≡◌, ◌+◌, ◌*◌, ◌≤◌, ◌<◌, ◌/◌, ◌%◌, ◌==◌, ℕ, zero, suc, max, length, List, [], ◌∷◌, ◌++◌, Option, None, ℤ, pos, ◌-ℤ◌, true, false, cond, refl, ap, sym, ◌∙◌, arith}
 use Rattle.std.specs.Prelude.{map}
 use Rattle.std.proofs.Math.IntN.{nat_abs}

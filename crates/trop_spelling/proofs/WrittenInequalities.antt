@@ -1,4 +1,5 @@
 -- Printed inequalities are read back.
+-- Index: IsOpenInequality, open_is_inequality, open_has_token, inequality_written.
 use Rattle.std.proofs.Common.{◌≡◌, ◌<◌, ◌≤◌, ◌+◌, ◌^◌, ℕ, Bool, false, List, [], ◌∷◌, ◌++◌, length, Option, Ok, refl, sym, ap, ◌∙◌, subst, arith, append_assoc}
 use Rattle.trop_theory.specs.Semiring.{Semiring}
 use Rattle.trop_theory.specs.Numbers.{Numbering, NumberLaws}

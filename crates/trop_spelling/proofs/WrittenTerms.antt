@@ -1,4 +1,6 @@
 -- Printed terms and sides are read back.
+-- Index: Within, minus_written, plus_written, comma_written, open_written, close_written, max_element, min_element,
+-- truth_element, max_shifted, min_shifted, truth_variable.
 use Rattle.std.proofs.Common.{◌≡◌, ◌<◌, ◌≤◌, ◌+◌, ◌^◌, ℕ, zero, suc, true, List, [], ◌++◌, length, codes, Option, Some, None, refl, sym, subst, arith, pos}
 use Rattle.std.specs.Prelude.{ℤ, negsuc, decimal, unsigned_abs, slice_index_or}
 use Rattle.std.proofs.lemmas.List.{append-nil}

@@ -29,6 +29,12 @@ min_start R N bound p = if says (codes "oo") p then Ok (Some R.zero) else max_st
 abbrev pub min_behind : {V : Type 0} → Numbering V → ℕ → Piece → Result V FaultKind
 min_behind N bound p = passed (λ n. N.of (neg_ℤ (pos n))) (number bound p)
 
+-- what may stand behind a `-`; in bool no token is one
+abbrev pub behind_minus : {V : Type 0} → RingKind → Semiring V → Numbering V → ℕ → Piece → Result V FaultKind
+behind_minus MaxKind R N bound p = max_behind R N bound p
+behind_minus MinKind R N bound p = min_behind N bound p
+behind_minus BoolKind R N bound p = Err Syntax
+
 -- `true` or `false`
 abbrev pub truth : {V : Type 0} → Semiring V → Piece → Result V FaultKind
 truth R p = if says (codes "true") p then Ok R.one else (if says (codes "false") p then Ok R.zero else Err Syntax)

@@ -69,39 +69,33 @@ fn truth<S: Scalar>(piece: Piece<'_>) -> Result<S, FaultKind>
     }
 }
 
-// What stands behind the first token of a number or of `-oo`.
-#[tactic(auto, unfolding(trop_grammar::specs::Reading::token_at, trop_grammar::specs::Reading::gives, crate::specs::Elements::behind_at))]
-pub(crate) fn max_rest<'a, S: Scalar>(
-    start: Option<S>,
-    at: Pieces<'a>,
-    bound: u64,
-) -> Result<(S, Pieces<'a>), ReadErr<'a>>
+// What may stand behind a `-`; in bool no token is one.
+fn behind_minus<S: Spelling>(piece: Piece<'_>, bound: u64) -> Result<S, FaultKind>
     requires { bound ≤ 2 ^ 48 }
-    ensures gives { Gives (λ x. (x.0, pieces_left x.1)) result
-        (spec.behind_at (spec.max_behind S.ring S.numbering bound) start (pieces_left at.entry)) }
-    ensures source { IfOk result (λ x. pieces_source x.1 ≡ pieces_source at.entry) }
+    ensures { result ≡ spec.behind_minus S.KIND S.ring S.numbering bound (piece_of piece.entry) }
 {
-    match (start, at.next()) {
-        (Some(x), _) => Ok((x, at)),
-        (None, Some((piece, rest))) => settle(max_behind(piece, bound), at, rest),
-        (None, None) => Err(ReadErr::Wrong(FaultKind::Syntax, at)),
+    match S::KIND {
+        RingKind::Max => max_behind(piece, bound),
+        RingKind::Min => min_behind(piece, bound),
+        RingKind::Bool => Err(FaultKind::Syntax),
     }
 }
 
+// What stands behind the first token of a number or of `-oo`.
 #[tactic(auto, unfolding(trop_grammar::specs::Reading::token_at, trop_grammar::specs::Reading::gives, crate::specs::Elements::behind_at))]
-pub(crate) fn min_rest<'a, S: Scalar>(
+pub(crate) fn element_rest<'a, S: Spelling>(
     start: Option<S>,
     at: Pieces<'a>,
     bound: u64,
 ) -> Result<(S, Pieces<'a>), ReadErr<'a>>
     requires { bound ≤ 2 ^ 48 }
     ensures gives { Gives (λ x. (x.0, pieces_left x.1)) result
-        (spec.behind_at (spec.min_behind S.numbering bound) start (pieces_left at.entry)) }
+        (spec.behind_at (spec.behind_minus S.KIND S.ring S.numbering bound) start (pieces_left at.entry)) }
     ensures source { IfOk result (λ x. pieces_source x.1 ≡ pieces_source at.entry) }
 {
     match (start, at.next()) {
         (Some(x), _) => Ok((x, at)),
-        (None, Some((piece, rest))) => settle(min_behind(piece, bound), at, rest),
+        (None, Some((piece, rest))) => settle(behind_minus(piece, bound), at, rest),
         (None, None) => Err(ReadErr::Wrong(FaultKind::Syntax, at)),
     }
 }
@@ -123,11 +117,11 @@ pub(crate) fn element<'a, S: Spelling>(
     match S::KIND {
         RingKind::Max => {
             let (start, rest) = settle(max_start(piece, bound), at, rest)?;
-            max_rest(start, rest, bound)
+            element_rest(start, rest, bound)
         }
         RingKind::Min => {
             let (start, rest) = settle(min_start(piece, bound), at, rest)?;
-            min_rest(start, rest, bound)
+            element_rest(start, rest, bound)
         }
         RingKind::Bool => settle(truth(piece), at, rest),
     }

@@ -1,9 +1,8 @@
 //! How the elements of the three semirings are written: elements, rows, terms, sides and inequalities, both ways.
 //!
 //! [`Spelling`] gives the words of a semiring; [`RingKind`] says which of the three it is. [`read_row`] and
-//! [`read_ineq`]
-//! read one row or inequality that ends its line, [`row_text`] and [`ineq_text`] print one, and what is printed is read
-//! back. Readers of files go on with [`row_entries`], [`side_start`] and [`inequality_rest`].
+//! [`read_ineq`] read one row or inequality that ends its line, [`row_text`] and [`ineq_text`] print one, and what is
+//! printed is read back. Readers of files go on with [`row_entries`], [`side_start`] and [`inequality_rest`].
 //!
 //! What is said of any semiring holds over each of the three: `specs/Over`.
 #![tactic(auto)]
@@ -25,8 +24,3 @@ pub use print_side::{ineq_text, push_inequality};
 pub use ring_kind::RingKind;
 pub use spelling::{NoMemory, Spelling};
 pub use terms::{Start, side_start};
-
-#[cfg(test)]
-mod part_tests;
-#[cfg(test)]
-mod tests;

@@ -65,12 +65,10 @@ fn inequality_line<'a, S: Spelling>(
 }
 
 /// Reads a row of `len` elements, whose numbers have size at most `bound`, from the next tokens. They are all that are
-/// left
-/// in their line, which is the line of this number; no token of an earlier line is left.
+/// left in their line, which is the line of this number; no token of an earlier line is left.
 ///
 /// Behind the row the lexer goes on with the next line. A refusal is the first fault of these tokens and the end of
-/// their
-/// line, or `NoMemory`.
+/// their line, or `NoMemory`.
 pub fn read_row<'a, S: Spelling>(
     alloc: Global,
     lexer: &mut Lexer<'a>,
@@ -108,8 +106,7 @@ pub fn read_row<'a, S: Spelling>(
 /// They are all that are left in their line, which is the line of this number; no token of an earlier line is left.
 ///
 /// Behind the inequality the lexer goes on with the next line. A refusal is the first fault of these tokens and the end
-/// of
-/// their line, or `NoMemory`.
+/// of their line, or `NoMemory`.
 pub fn read_ineq<'a, S: Spelling>(
     alloc: Global,
     lexer: &mut Lexer<'a>,

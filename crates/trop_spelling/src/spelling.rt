@@ -64,8 +64,7 @@ pub trait Spelling: Scalar {
     }
 
     /// `max` and `min` have whole numbers as their finite elements, and the order is reversed for `min`; `bool` has
-    /// just two
-    /// elements.
+    /// just two elements.
     ghost kind_laws: { KindLaws KIND Self.ring Self.numbering Self.REVERSED };
 
     /// Its operations and its numbering are those of its kind.

@@ -9,7 +9,7 @@ ghost use Rattle.trop_reading.specs.Words as words;
 ghost use Rattle.trop_spelling.specs.Elements as elements;
 ghost use Rattle.trop_spelling.specs.Inequalities as spec;
 
-use crate::elements::{max_rest, min_rest};
+use crate::elements::element_rest;
 use crate::{RingKind, Spelling};
 use std::alloc::{AllocError, Global};
 use trop_reading::{ReadErr, is_digits, number, said, says, settle, text_of};
@@ -160,47 +160,22 @@ fn variable_rest<'a, S: Scalar>(
     Ok((term, at))
 }
 
-// The rest of a term in max.
+// The rest of a term in max or min.
 #[tactic(auto, unfolding(trop_grammar::specs::Reading::read_then, trop_grammar::specs::Reading::gives, crate::specs::Elements::behind_at, crate::specs::Inequalities::numeric_rest_at))]
-fn max_term_rest<'a, S: Scalar>(
+fn numeric_rest<'a, S: Spelling>(
     start: Start<S>,
     at: Pieces<'a>,
     bound: u64,
 ) -> Result<(Term<S>, Pieces<'a>), ReadErr<'a>>
     requires { bound ≤ 2 ^ 48 }
     ensures gives { Gives (λ x. (x.0, pieces_left x.1)) result
-        (spec.numeric_rest_at S.ring S.numbering bound (elements.max_behind S.ring S.numbering bound) start
+        (spec.numeric_rest_at S.ring S.numbering bound (elements.behind_minus S.KIND S.ring S.numbering bound) start
         (pieces_left at.entry)) }
     ensures source { IfOk result (λ x. pieces_source x.1 ≡ pieces_source at.entry) }
 {
     let (coefficient, rest) = match start {
         Start::Constant(x) => (x, at),
-        Start::Minus => max_rest(None, at, bound)?,
-        Start::Variable(i) => return variable_rest(at, i, bound),
-    };
-    let term = Term {
-        coordinate: 0,
-        coefficient,
-    };
-    Ok((term, rest))
-}
-
-// The rest of a term in min.
-#[tactic(auto, unfolding(trop_grammar::specs::Reading::read_then, trop_grammar::specs::Reading::gives, crate::specs::Elements::behind_at, crate::specs::Inequalities::numeric_rest_at))]
-fn min_term_rest<'a, S: Scalar>(
-    start: Start<S>,
-    at: Pieces<'a>,
-    bound: u64,
-) -> Result<(Term<S>, Pieces<'a>), ReadErr<'a>>
-    requires { bound ≤ 2 ^ 48 }
-    ensures gives { Gives (λ x. (x.0, pieces_left x.1)) result
-        (spec.numeric_rest_at S.ring S.numbering bound (elements.min_behind S.numbering bound) start
-        (pieces_left at.entry)) }
-    ensures source { IfOk result (λ x. pieces_source x.1 ≡ pieces_source at.entry) }
-{
-    let (coefficient, rest) = match start {
-        Start::Constant(x) => (x, at),
-        Start::Minus => min_rest(None, at, bound)?,
+        Start::Minus => element_rest(None, at, bound)?,
         Start::Variable(i) => return variable_rest(at, i, bound),
     };
     let term = Term {
@@ -243,8 +218,8 @@ fn term_rest<'a, S: Spelling>(
     ensures source { IfOk result (λ x. pieces_source x.1 ≡ pieces_source at.entry) }
 {
     match S::KIND {
-        RingKind::Max => max_term_rest(start, at, bound),
-        RingKind::Min => min_term_rest(start, at, bound),
+        RingKind::Max => numeric_rest(start, at, bound),
+        RingKind::Min => numeric_rest(start, at, bound),
         RingKind::Bool => Ok((truth_term(start), at)),
     }
 }

@@ -29,6 +29,3 @@ pub use names::{Names, NoMemory};
 pub use pieces::{Piece, Pieces};
 pub use places::fault_before;
 pub use token::{Token, TokenKind};
-
-#[cfg(test)]
-mod tests;

@@ -17,6 +17,8 @@ pub mod Narrower
 pub mod Distinct
 pub mod Units
 pub mod StepLists
+pub mod Chosen
+pub mod Placing
 pub mod Unique
 pub mod Mixed
 pub mod MaxPlusLaws

@@ -1,8 +1,8 @@
 -- One more inequality: the candidates of the elementary step that are extreme are the canonical list of the smaller
 -- cone.
 -- Allamigeon, Gaubert, Goubault: The tropical double description method (2010).
--- Index: IsExtreme-narrower, Solves-push, Solves-front, Solves-last, Stepped, stepped, kept_stays_extreme,
--- mixed_solves, IsNarrowed, narrowed_canonical, narrowed_generates.
+-- Index: IsExtreme-narrower, Solves-push, Solves-front, Solves-last, Stepped, stepped, normalises_from_multiple,
+-- kept_stays_extreme, mixed_solves, IsNarrowed, narrowed_canonical, narrowed_generates.
 use Rattle.std.proofs.Common.{◌≡◌, ◌≢◌, ◌⊎◌, ◌<◌, ℕ, zero, suc, List, [], ◌∷◌, ◌++◌, length, map, inl, inr, ⊎_elim, sym, ap, ◌∙◌, refl, arith, subst, get_or}
 use Rattle.std.specs.Prelude.{All, AllPairs, Contains, ◌↔◌}
 use Rattle.std.proofs.lemmas.List.{length-map, get_or_default, length-append, get_or_append_left}
@@ -105,7 +105,7 @@ module _ {V : Type 0} {R : Semiring V} (laws : SemiringLaws R) (n : ℕ) where
           (Contains-append_cases kept.chosen (products (mixed R a b) finite.chosen dropped.chosen) x c)
 
   -- a multiple in normal form
-  normalises_from_multiple : (g x : List V) (c : V) → IsNormal R x → x ≡ scaled R c g → Normalises R g x
+  pub normalises_from_multiple : (g x : List V) (c : V) → IsNormal R x → x ≡ scaled R c g → Normalises R g x
   normalises_from_multiple g x c h e = record {
     factor = c;
     finite = left_factor_finite laws c (entry R g h.first) R.one

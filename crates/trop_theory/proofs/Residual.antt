@@ -1,4 +1,6 @@
 -- Membership by residuation: x is a combination where each finite entry is met by a multiple of a row below x.
+-- Index: IsCombination-at, met, met_from_IsCombination, IsCombination_from_met, none_meets, meets_from_below,
+-- below_from_meets, unmet_apart.
 use Rattle.std.proofs.Common.{◌≡◌, ◌≢◌, ◌<◌, ℕ, zero, suc, List, [], ◌∷◌, length, ⊎_elim, sym, ap, ◌∙◌, refl, arith, subst, get_or}
 use Rattle.std.specs.Prelude.{All, Any}
 use Rattle.std.proofs.lemmas.List.{length-map, get_or_past}

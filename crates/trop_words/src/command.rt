@@ -34,8 +34,7 @@ pub enum Command<'a> {
     /// One run of a program, of at most `turns` configurations, 0 to 10,000.
     Trace { turns: u32 },
     /// The invariants of a program. The first `delay` changes of a loop's head, 0 to 1,000, are joins; `narrow`
-    /// descending
-    /// passes, 0 to 100, follow.
+    /// descending passes, 0 to 100, follow.
     Analyze { mode: Mode, delay: u32, narrow: u32 },
     /// Whether a report is inductive.
     Check,

@@ -11,11 +11,25 @@ fn words_of(alloc: Global, line: &str) -> Result<Vec<String>, Fail> {
     Ok(words)
 }
 
-const GOOD: [(&str, Command<'static>); 11] = [
+const GOOD: [(&str, Command<'static>); 20] = [
     ("reduce", Command::Reduce),
+    ("ext", Command::Ext),
+    ("int", Command::Int),
+    ("tangent", Command::Tangent),
+    ("op include", Command::Include),
     ("op equal", Command::Equal),
+    ("op join", Command::Join),
+    ("op meet", Command::Meet),
     ("op forget var=max", Command::Forget { var: "max" }),
+    (
+        "op forget var=_bcdefghijklmnopqrstuvwxyz012345",
+        Command::Forget {
+            var: "_bcdefghijklmnopqrstuvwxyz012345",
+        },
+    ),
+    ("trace turns=0", Command::Trace { turns: 0 }),
     ("trace turns=10000", Command::Trace { turns: 10_000 }),
+    ("check", Command::Check),
     (
         "analyze mode=max",
         Command::Analyze {
@@ -111,5 +125,7 @@ fn the_table_of_words(rt: HostRuntime) -> Result<(), Fail> {
         assert!(rt; read_words(&words) == Err(BadWords), "{line}");
     }
     assert!(rt; read_words(&[]) == Err(BadWords));
+    let text = format!(in alloc; "{BadWords}")?;
+    assert_eq!(rt; text.as_str(), "bad words");
     Ok(())
 }

@@ -1,5 +1,5 @@
 use Rattle.std.proofs.lemmas.List.Elements.{All-contains_itself}
-use Rattle.trop_guard.proofs.Placing.{stay_placed, only_placed, here_placed, stay_same}
+use Rattle.trop_theory.proofs.Placing.{stay_placed, only_placed, here_placed, stay_same}
 use Rattle.trop_guard.proofs.found.admit.Goals as goal
 
 pub returns-in_err-insert-clause-stay : goal.returns-in_err-insert-clause-stay

@@ -4,4 +4,6 @@ use Rattle.trop_theory.specs.Vectors.{entry, joined, scaled}
 use Rattle.trop_guard.proofs.lower.is_under.Given as goal
 
 abbrev pub invariant-loop-j : goal.invariant-loop-j
-invariant-loop-j g l = let R = g.S.Scalar.ring in (k : ℕ) → k < l.j → Le R (R.times (entry R (joined R (scaled R l.left l.v) (scaled R l.right l.w)) k) (entry R l.x l.t)) (R.times (entry R l.x k) l.top)
+invariant-loop-j g l = let R = g.S.Scalar.ring in (k : ℕ) → k < l.j →
+    Le R (R.times (entry R (joined R (scaled R l.left l.v) (scaled R l.right l.w)) k) (entry R l.x l.t))
+    (R.times (entry R l.x k) l.top)

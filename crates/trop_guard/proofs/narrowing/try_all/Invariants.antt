@@ -9,6 +9,7 @@ invariant-loop-k g l =
     let R = g.S.Scalar.ring in
     record {
       found : AreFound R l.parts.kept.n l.ineq l.parts.kept.rows l.parts.dropped.rows l.found.items;
-      mixed : All (λ v. All (HasMixed R l.parts.kept.n l.ineq l.parts.kept.rows l.parts.dropped.rows l.found.items v) l.parts.dropped.rows) (take l.k l.parts.kept.rows);
+      mixed : All (λ v. All (HasMixed R l.parts.kept.n l.ineq l.parts.kept.rows l.parts.dropped.rows l.found.items v)
+          l.parts.dropped.rows) (take l.k l.parts.kept.rows);
       within : length l.found.items ≤ row_limit;
     }

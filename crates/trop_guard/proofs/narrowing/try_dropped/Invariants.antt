@@ -11,6 +11,7 @@ invariant-loop-w g l =
       items : l.w-items ≡ l.parts.dropped.rows;
       found : AreFound R l.parts.kept.n l.ineq l.parts.kept.rows l.parts.dropped.rows l.found.items;
       stay : All (Contains l.found.items) l.initial.found.items;
-      mixed : All (HasMixed R l.parts.kept.n l.ineq l.parts.kept.rows l.parts.dropped.rows l.found.items l.v) (take l.w-index l.parts.dropped.rows);
+      mixed : All (HasMixed R l.parts.kept.n l.ineq l.parts.kept.rows l.parts.dropped.rows l.found.items l.v)
+          (take l.w-index l.parts.dropped.rows);
       within : length l.found.items ≤ row_limit;
     }

@@ -8,7 +8,9 @@ returns-then-is_zero-clause-stay g c = All-contains_itself c.args.found.now.item
 
 pub returns-then-is_zero-clause-mixed : goal.returns-then-is_zero-clause-mixed
 returns-then-is_zero-clause-mixed g c =
-    kept_skip g.S.Scalar.ring c.args.parts.now.kept.n c.args.ineq.now c.args.parts.now.kept.rows c.args.parts.now.dropped.rows c.args.found.now.items c.args.v.now (sym c.requires.right ∙ c.is_zero.ensures.0 c.if-is_zero.true)
+    kept_skip g.S.Scalar.ring c.args.parts.now.kept.n c.args.ineq.now c.args.parts.now.kept.rows
+    c.args.parts.now.dropped.rows c.args.found.now.items c.args.v.now
+    (sym c.requires.right ∙ c.is_zero.ensures.0 c.if-is_zero.true)
 
 pub try_dropped-requires : goal.try_dropped-requires
 try_dropped-requires g c = record {

@@ -13,16 +13,27 @@ loop-row-preserved g c =
     elim c.if-not-holds.branch [
       | then-not-holds+in_ok-copy+in_ok-push w ↦
           rw (w.out-is, w.in_ok-push.ensures.items)
-          (chosen_read (λ x. IsTrueAt g.S.Scalar.ring c.args.ineq.now x → ⊥) c.args.rows.now c.loop-row.out.items c.loop-row.row-index c.row-item.result _ c.loop-row.invariant (omega arith) c.row-item.is w.in_ok-copy.ensures.same (λ t. true≢false (sym (c.holds.ensures.1 t) ∙ w.if-not-holds.true)))
+          (chosen_read (λ x. IsTrueAt g.S.Scalar.ring c.args.ineq.now x → ⊥) c.args.rows.now c.loop-row.out.items
+          c.loop-row.row-index c.row-item.result _ c.loop-row.invariant
+          (omega arith) c.row-item.is w.in_ok-copy.ensures.same
+          (λ t. true≢false (sym (c.holds.ensures.1 t) ∙ w.if-not-holds.true)))
       | else-not-holds w ↦
           rw w.out-is
-          (skipped_read (λ x. IsTrueAt g.S.Scalar.ring c.args.ineq.now x → ⊥) c.args.rows.now c.loop-row.out.items c.loop-row.row-index c.row-item.result c.loop-row.invariant (omega arith) c.row-item.is (λ f. f (c.holds.ensures.0 w.if-not-holds.false)))
+          (skipped_read (λ x. IsTrueAt g.S.Scalar.ring c.args.ineq.now x → ⊥) c.args.rows.now c.loop-row.out.items
+          c.loop-row.row-index c.row-item.result c.loop-row.invariant (omega arith) c.row-item.is
+          (λ f. f (c.holds.ensures.0 w.if-not-holds.false)))
     ]
 
 pub holds-requires-clause-sizes : goal.holds-requires-clause-sizes
 holds-requires-clause-sizes g c =
     let R = g.S.Scalar.ring in
-    omega (arith, ap (row_size R) c.row-item.is, rows_size-at R c.args.rows.now c.loop-row.row-index c.row-item.result (omega arith))
+    omega (
+      arith,
+      ap (row_size R) c.row-item.is,
+      rows_size-at R c.args.rows.now c.loop-row.row-index c.row-item.result
+          (omega arith),
+    )
 
 pub returns : goal.returns
-returns g c = subst (λ rows. AreChosen (λ w. IsTrueAt g.S.Scalar.ring c.args.ineq.now w → ⊥) rows c.loop-row.out.items) (take_all c.loop-row.row-index c.args.rows.now (omega arith)) c.loop-row.invariant
+returns g c = subst (λ rows. AreChosen (λ w. IsTrueAt g.S.Scalar.ring c.args.ineq.now w → ⊥) rows c.loop-row.out.items)
+    (take_all c.loop-row.row-index c.args.rows.now (omega arith)) c.loop-row.invariant

@@ -6,4 +6,9 @@ use Rattle.trop_guard.proofs.parts.sums.Goals as goal
 pub dot-requires-clause-sizes : goal.dot-requires-clause-sizes
 dot-requires-clause-sizes g c =
     let R = g.S.Scalar.ring in
-    omega (arith, ap (row_size R) c.row-item.is, rows_size-at R c.args.rows.now c.loop-row.row-index c.row-item.result (omega arith))
+    omega (
+      arith,
+      ap (row_size R) c.row-item.is,
+      rows_size-at R c.args.rows.now c.loop-row.row-index c.row-item.result
+          (omega arith),
+    )

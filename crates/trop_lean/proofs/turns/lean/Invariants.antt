@@ -14,7 +14,9 @@ invariant-loop-k g l = let R = g.S.Scalar.ring in record {
   size : system_size R l.list.kept.inequalities ≤ 2 ^ 49;
   few : length l.list.kept.inequalities ≤ l.k;
   one_each : length l.list.rows.rows ≡ length l.list.kept.inequalities;
-  lean : IsLeanSoFar R l.system.n l.system.inequalities l.list.kept.inequalities l.list.rows.rows (drop l.k l.system.inequalities);
-  unstopped : IsUnstopped R l.system.n l.system.inequalities l.list.kept.inequalities l.k (drop l.k l.system.inequalities);
+  lean : IsLeanSoFar R l.system.n l.system.inequalities l.list.kept.inequalities l.list.rows.rows
+      (drop l.k l.system.inequalities);
+  unstopped : IsUnstopped R l.system.n l.system.inequalities l.list.kept.inequalities l.k
+      (drop l.k l.system.inequalities);
   looks : l.initial.looks ≤ l.looks;
 }

@@ -1,11 +1,11 @@
-//! What no clause says: printed texts, and each call once on its way.
+//! The words of the semirings, and elements, rows and inequalities as they are printed.
 ghost use Rattle.std.specs.Prelude.{◌≡◌, ◌≤◌, ◌∷◌, [], length, codes, IfOk};
 
-use super::*;
 use std::alloc::Global;
 use std::test::Fail;
 use trop_row::{Ineq, Row};
 use trop_scalar::{Flag, MaxInt, MinInt, Scalar};
+use trop_spelling::{RingKind, Spelling, ineq_text, row_text};
 use trop_text::Names;
 
 fn row<S: Scalar>(alloc: Global, entries: &[S]) -> Result<Row<S>, Fail>

@@ -23,17 +23,22 @@ module _ {X : Type 0} (D : X → X → Type 0) where
   pub pairs_chosen : (P : X → Type 0) (xs ys : List X) → AreChosen P xs ys → AllPairs D xs → AllPairs D ys
   pairs_chosen P [] ys h k = subst (AllPairs D) (sym h) k
   pairs_chosen P (x ∷ xs) ys h k = ⊎_elim
-      (λ a. subst (AllPairs D) (sym a.1.1) (pairs_cons x a.1.0 (λ i d l. All-contains (D x) xs (get_or a.1.0 i d) (pairs_head x xs k) (from_chosen P xs a.1.0 a.1.2 (get_or a.1.0 i d) (Contains-get_or a.1.0 i d l)).0) (pairs_chosen P xs a.1.0 a.1.2 (pairs_tail x xs k))))
+      (λ a. subst (AllPairs D) (sym a.1.1) (pairs_cons x a.1.0
+      (λ i d l. All-contains (D x) xs (get_or a.1.0 i d) (pairs_head x xs k)
+      (from_chosen P xs a.1.0 a.1.2 (get_or a.1.0 i d) (Contains-get_or a.1.0 i d l)).0)
+      (pairs_chosen P xs a.1.0 a.1.2 (pairs_tail x xs k))))
       (λ a. pairs_chosen P xs ys a.1 (pairs_tail x xs k))
       h
 
 -- an element was chosen, or has the property not
-pub chosen_or_not : {X : Type 0} (P : X → Type 0) (xs ys : List X) → AreChosen P xs ys → (x : X) → Contains xs x → (Contains ys x) ⊎ (P x → ⊥)
+pub chosen_or_not : {X : Type 0} (P : X → Type 0) (xs ys : List X) → AreChosen P xs ys → (x : X) → Contains xs x →
+    (Contains ys x) ⊎ (P x → ⊥)
 chosen_or_not P [] ys h x c = absurd (Contains-none x c)
 chosen_or_not P (z ∷ xs) ys h x c = ⊎_elim
     (λ k. ⊎_elim
     (λ e. inl (subst (λ v. Contains v x) (sym k.1.1) (0, omega arith, e)))
-    (λ t. ⊎_elim (λ q. inl (subst (λ v. Contains v x) (sym k.1.1) (Contains-cons z k.1.0 x q))) (λ q. inr q) (chosen_or_not P xs k.1.0 k.1.2 x t))
+    (λ t. ⊎_elim (λ q. inl (subst (λ v. Contains v x) (sym k.1.1) (Contains-cons z k.1.0 x q))) (λ q. inr q)
+    (chosen_or_not P xs k.1.0 k.1.2 x t))
     (Contains-cons_cases z xs x c))
     (λ d. ⊎_elim
     (λ e. inr (subst (λ v. P v → ⊥) e d.0))

@@ -1,10 +1,10 @@
 //! Rows and inequalities of single lines, and where the lexer then stands.
 ghost use Rattle.std.specs.Prelude.{◌≤◌, length};
 
-use super::*;
 use std::alloc::Global;
 use std::test::Fail;
 use trop_scalar::{Flag, MaxInt, MinInt};
+use trop_spelling::{Spelling, read_ineq, read_row};
 use trop_text::{Fault, Lexer, Names, TextErr};
 
 fn syntax(line: u32, column: u32) -> Result<u32, TextErr> {

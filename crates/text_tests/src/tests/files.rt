@@ -1,9 +1,12 @@
-//! What no clause says: each call once on its way, and texts that were worked out by hand.
+//! Files that were worked out by hand: what they give, or their first fault.
 ghost use Rattle.std.specs.Prelude.{◌≤◌, ◌^◌, length};
 
-use super::*;
 use std::alloc::Global;
 use std::test::Fail;
+use trop_files::{
+    AnyGens, AnyIneqLines, AnyIneqs, IneqLines, open_ineqs, print_ineqs, read_gens, read_ineqs,
+};
+use trop_spelling::Spelling;
 use trop_text::{Fault, TextErr};
 
 /// How many vectors or inequalities a file gives, or its first fault.

@@ -1,10 +1,10 @@
-//! What no clause says: printed texts, and each call once on its way.
-use crate::{
+//! Tokens with their places, names, and the texts of faults.
+use std::alloc::AllocError;
+use std::test::Fail;
+use trop_text::{
     Fault, FaultKind, Lexer, Names, Pieces, TextErr, Token, TokenKind, as_name, digits_value,
     fault_before, is_name, is_reserved,
 };
-use std::alloc::AllocError;
-use std::test::Fail;
 
 /// The text of a fault.
 #[derive(Clone, Copy)]
