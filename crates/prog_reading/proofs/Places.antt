@@ -4,30 +4,8 @@ use Rattle.std.specs.Str.{bytes_eq}
 use Rattle.trop_text.specs.Tokens.{Tok}
 use Rattle.trop_text.specs.Pieces.{Piece, Token, LineEnd, InputEnd, pieces_from}
 use Rattle.shape_grammar.specs.Past.{past}
+use Rattle.prog_texts.proofs.Runs.{ended_keeps}
 use Rattle.prog_texts.specs.Words.{Before, Counted, skipped, one_more, commas_after, behind, counted}
-
-and_false : (d : Bool) → (d && false) ≡ false
-and_false true = refl
-and_false false = refl
-
-abbrev with_names : Before → Bool → Before
-with_names b z = record {
-  last = b.last;
-  sums = b.sums;
-  declares = b.declares;
-  names = one_more z b.names;
-  commas =
-      b.commas;
-  statements = b.statements;
-  atoms = b.atoms;
-}
-
-abbrev ended : ℕ → Before → Counted
-ended line b = record { piece = LineEnd line; before = b }
-
--- the end of a line changes nothing
-pub line_keeps : (line : ℕ) (b : Before) → behind (ended line b) ≡ b
-line_keeps line b = ap (with_names b) (and_false b.declares)
 
 past_from : (b : Before) (ts : List Tok) → past skipped (counted b (pieces_from ts 0)) ≡ counted b (pieces_from ts 0)
 unfolding past counted pieces_from
@@ -38,7 +16,7 @@ pub past_line : (b : Before) (line : ℕ) (old ps : List Piece) (ts : List Tok) 
     ps ≡ pieces_from ts 0 → counted b ps ≡ past skipped (counted b old)
 unfolding past counted
 past_line b line old ps ts e k =
-    sym (ap (λ z. past skipped (counted b z)) e ∙ ap (λ z. past skipped (counted z ps)) (line_keeps line b)
+    sym (ap (λ z. past skipped (counted b z)) e ∙ ap (λ z. past skipped (counted z ps)) (ended_keeps line b)
     ∙ ap (λ z. past skipped (counted b z)) k ∙ past_from b ts ∙ ap (counted b) (sym k))
 
 pub past_token : (b : Before) (t : Tok) (old ps : List Piece) → old ≡ Token t ∷ ps →

@@ -1,6 +1,7 @@
 -- Pieces that follow one another, and how many statements and atoms begin among them.
--- Index: IsRun, IsFront, front_of, run_split, run_past, last_is, sums_is, IsTally, tally_then, tally_none, tally_more,
--- tally_token, tally_statement, tally_atom, IsFresh, IsAsking, fresh_word, asking_word, asking_bracket, atom_begins.
+-- Index: IsRun, IsFront, front_of, run_split, ended_keeps, run_past, last_is, sums_is, IsTally, tally_then, tally_none,
+-- tally_more, tally_token, tally_statement, tally_atom, IsFresh, IsAsking, fresh_word, asking_word, asking_bracket,
+-- atom_begins.
 use Rattle.std.proofs.Common.{◌≡◌, ◌≤◌, ◌<◌, ◌+◌, ℕ, Bool, true, false, cond, List, [], ◌∷◌, ◌++◌, codes, refl, sym, ap, subst, ◌∙◌, arith, nat_le, ◌&&◌, ◌||◌}
 use Rattle.std.specs.Prelude.{max}
 use Rattle.std.specs.Str.{bytes_eq}
@@ -71,7 +72,8 @@ with_names b z = record {
   atoms = b.atoms;
 }
 
-ended_keeps : (line : ℕ) (b : Before) → behind (record { piece = LineEnd line; before = b }) ≡ b
+-- the end of a line changes nothing
+pub ended_keeps : (line : ℕ) (b : Before) → behind (record { piece = LineEnd line; before = b }) ≡ b
 ended_keeps line b = ap (with_names b) (and_false b.declares)
 
 skipped_keeps : (p : Piece) (b : Before) → is_line_end p ≡ true → behind (record { piece = p; before = b }) ≡ b

@@ -11,5 +11,6 @@ pub mod LineAnswers
 pub mod WrittenHeader
 pub mod WrittenNumbers
 pub mod WrittenGenerators
+pub mod WrittenParts
 pub mod WrittenFiles
 pub mod WrittenSystems

@@ -222,7 +222,8 @@ ineqs_held us file s =
     (record {
       names_few = header_few (codes "ineqs") s.front s.value s.first;
       system_is =
-          holds_in_kind (AreInequalitiesOf s.value) (λ V kind R N xs. AreFileInequalities R (length s.value.names + 1) xs)
+          holds_in_kind (AreInequalitiesOf s.value)
+          (λ V kind R N xs. AreFileInequalities R (length s.value.names + 1) xs)
           (λ V kind R N reversed laws known us system g. inequalities_held laws kind N reversed known s.value.names
           is_input_end us system g) s.value.ring s.second.front s.second.value s.second.first;
     })
@@ -247,7 +248,8 @@ at_file_held us file s =
       names_few = header_few (codes "at") s.front s.value s.first;
       body_is =
           holds_in_kind (IsAtOf s.value) (λ V kind R N x. IsFileAt R (length s.value.names + 1) x)
-          (λ V kind R N reversed laws known us p g. at_held laws kind N reversed known s.value.names us p g) s.value.ring
+          (λ V kind R N reversed laws known us p g. at_held laws kind N reversed known s.value.names us p g)
+          s.value.ring
           s.second.front s.second.value s.second.first;
     })
 

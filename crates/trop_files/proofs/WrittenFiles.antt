@@ -14,14 +14,14 @@ use Rattle.trop_spelling.specs.declared.ring_kind.RingKind.{RingKind}
 use Rattle.trop_spelling.specs.Spelling.{KindLaws}
 use Rattle.trop_spelling.specs.Printed.{numbers}
 use Rattle.trop_files.specs.PrintedFiles.{lines_of, generator_line, printed_header, printed_gens}
-use Rattle.trop_files.specs.Header.{Header, IsHeader}
-use Rattle.trop_files.specs.Generators.{greatest_number, most_generators, is_finite, Rows, AreGeneratorsOf, SpellsGenerators}
-use Rattle.trop_spelling.specs.Over.{Over, Embedding, IsOneOfThree, InKind}
+use Rattle.trop_files.specs.Generators.{greatest_number, most_generators, is_finite, Rows, AreGeneratorsOf, generator_file, SpellsGenerators}
+use Rattle.trop_spelling.specs.Over.{Embedding, IsOneOfThree, InKind}
 use Rattle.trop_spelling.proofs.EachKind.{in_kind}
 use Rattle.trop_spelling.proofs.KindLaws.{named_row, is_one}
 use Rattle.trop_files.proofs.WrittenNumbers.{StartsPlain, FitFile, rows_fit}
 use Rattle.trop_files.proofs.WrittenGenerators.{line_row, Line, AreFinite, lines_written, generators}
-use Rattle.trop_files.proofs.WrittenHeader.{header_lines}
+use Rattle.trop_files.proofs.WrittenHeader.{header_of, header_lines}
+use Rattle.trop_files.proofs.WrittenParts.{AreParts, file_spelled}
 
 or_same : (b rest other : Bool) → (rest ≡ true → other ≡ true) → (b || rest) ≡ true → (b || other) ≡ true
 or_same true rest other to h = refl
@@ -56,41 +56,6 @@ module _ {V : Type 0} (kind : RingKind) (reversed : Bool) (R : Semiring V) (N : 
 
 -- ---- files
 
-abbrev header_of : RingKind → List (List ℕ) → Header
-header_of kind names = record { ring = kind; names = names; vars_line = 3 }
-
--- a header and what stands behind it
-record AreParts (kind : RingKind) (names : List (List ℕ)) (Body : List Piece → Type 0) (us : List Piece) : Type 0 where
-  head : List Piece
-  items : List Piece
-  whole : us ≡ head ++ items
-  header : IsHeader (codes "gens") head (header_of kind names)
-  body : Body items
-
-spelled : (kind : RingKind) (names : List (List ℕ)) (any : Over Rows) (Body : List Piece → Type 0) →
-    ((items : List Piece) → Body items → InKind (AreGeneratorsOf (header_of kind names)) kind
-    (items ++ InputEnd ∷ []) any)
-    → (us : List Piece) → AreParts kind names Body us →
-    SpellsGenerators (us ++ InputEnd ∷ []) (record { names = names; vars_line = 3; rows = any })
-spelled kind names any Body to us h =
-    let rest = h.items ++ InputEnd ∷ [] in
-    record {
-      front = h.head;
-      back = rest;
-      value = header_of kind names;
-      whole = ap (λ ps. ps ++ InputEnd ∷ []) h.whole ∙ append_assoc h.head h.items (InputEnd ∷ []);
-      first = h.header;
-      second = record {
-        front = rest;
-        back = [];
-        value = any;
-        whole = sym (append-nil rest);
-        first =
-            to h.items h.body;
-        second = record { none = refl; is = refl };
-      };
-    }
-
 lines_map : {A B : Type 0} (line : B → List ℕ) (f : A → B) (xs : List A) →
     lines_of (λ x. line (f x)) xs ≡ lines_of line (map f xs)
 lines_map line f [] = refl
@@ -103,10 +68,10 @@ module _ {V : Type 0} (kind : RingKind) (reversed : Bool) (R : Semiring V) (N : 
     abbrev Items : List Piece → Type 0
     Items us = AreItems (Line kind R N (length names)) [] us (map (line_row kind R N) (map (numbers N) rows))
 
-    body : (items : List Piece) → Items items → InKind (AreGeneratorsOf (header_of kind names)) kind
+    body : (items : List Piece) → Items items → InKind (AreGeneratorsOf (header_of kind names 3)) kind
         (items ++ InputEnd ∷ []) (over Rows rows)
     body items h =
-        in_kind one (AreGeneratorsOf (header_of kind names)) (items ++ InputEnd ∷ []) rows
+        in_kind one (AreGeneratorsOf (header_of kind names 3)) (items ++ InputEnd ∷ []) rows
         (generators kind R N (length names) rows items few
         (rows_finite kind reversed R N laws known (length names) rows fits)
         (subst (λ ys. AreItems (Line kind R N (length names)) [] items ys)
@@ -118,12 +83,14 @@ module _ {V : Type 0} (kind : RingKind) (reversed : Bool) (R : Semiring V) (N : 
         let entries = map (numbers N) rows in
         let lines = lines_written kind R N (length names) [] entries 4 (λ e. absurd (omega arith)) fits in
         let whole : AreLines (printed_header (codes "gens") kind names ++ lines_of (generator_line kind) entries) []
-        1 lines.0 (AreParts kind names Items) =
-        lines_join (λ us vs h k. record { head = us; items = vs; whole = refl; header = h; body = k })
+        1 lines.0 (AreParts (codes "gens") (header_of kind names 3) Items) =
+        lines_join (λ us vs h k. record { head = us; items = vs; whole = refl; first = h; body = k })
         (header_lines (codes "gens") kind names refl are few_names (lines_of (generator_line kind) entries ++ []))
         lines.1 in
         lines_whole (λ us. SpellsGenerators us (record { names = names; vars_line = 3; rows = over Rows rows }))
-        (spelled kind names (over Rows rows) Items body) whole
+        (file_spelled (codes "gens") AreGeneratorsOf generator_file (header_of kind names 3)
+        (over Rows rows) Items body)
+        whole
 
   -- a printed file of generators in normal form is read back
   pub gens_read_back : (names : List (List ℕ)) (rows : List (List V)) → AreNames names → length names ≤ 63 →

@@ -13,13 +13,13 @@ use Rattle.trop_spelling.specs.Spelling.{KindLaws}
 use Rattle.trop_files.specs.PrintedFiles.{lines_of, printed_ineqs}
 use Rattle.trop_spelling.specs.Printed.{printed_inequality}
 use Rattle.trop_reading.specs.Words.{is_input_end}
-use Rattle.trop_files.specs.Header.{IsHeader}
 use Rattle.trop_spelling.specs.Inequalities.{IsInequalityRest}
 use Rattle.trop_files.specs.Generators.{greatest_number}
-use Rattle.trop_files.specs.InequalityFiles.{next_inequality, most_inequalities, AreInequalities, Systems, AreInequalitiesOf, SpellsInequalities}
-use Rattle.trop_spelling.specs.Over.{Over, Embedding, IsOneOfThree, InKind}
+use Rattle.trop_files.specs.InequalityFiles.{next_inequality, most_inequalities, AreInequalities, Systems, AreInequalitiesOf, inequality_file, SpellsInequalities}
+use Rattle.trop_spelling.specs.Over.{Embedding, IsOneOfThree, InKind}
 use Rattle.trop_spelling.proofs.EachKind.{in_kind}
 use Rattle.trop_files.proofs.WrittenHeader.{header_of, header_lines}
+use Rattle.trop_files.proofs.WrittenParts.{AreParts, file_spelled}
 use Rattle.trop_spelling.proofs.WrittenInequalities.{IsOpenInequality, open_has_token, inequality_written}
 
 -- ---- lists
@@ -90,38 +90,6 @@ module _ {V : Type 0} (kind : RingKind) (reversed : Bool) (R : Semiring V) (N : 
 
 -- ---- files
 
--- a header and what stands behind it
-record AreParts (kind : RingKind) (names : List (List ℕ)) (Body : List Piece → Type 0) (us : List Piece) : Type 0 where
-  head : List Piece
-  items : List Piece
-  whole : us ≡ head ++ items
-  header : IsHeader (codes "ineqs") head (header_of kind names 3)
-  body : Body items
-
-spelled : (kind : RingKind) (names : List (List ℕ)) (any : Over Systems) (Body : List Piece → Type 0) →
-    ((items : List Piece) → Body items → InKind (AreInequalitiesOf (header_of kind names 3)) kind
-    (items ++ InputEnd ∷ []) any)
-    → (us : List Piece) → AreParts kind names Body us →
-    SpellsInequalities (us ++ InputEnd ∷ []) (record { names = names; inequalities = any })
-spelled kind names any Body to us h =
-    let rest = h.items ++ InputEnd ∷ [] in
-    record {
-      front = h.head;
-      back = rest;
-      value = header_of kind names 3;
-      whole = ap (λ ps. ps ++ InputEnd ∷ []) h.whole ∙ append_assoc h.head h.items (InputEnd ∷ []);
-      first = h.header;
-      second = record {
-        front = rest;
-        back = [];
-        value = any;
-        whole = sym (append-nil rest);
-        first =
-            to h.items h.body;
-        second = record { none = refl; is = refl };
-      };
-    }
-
 module _ {V : Type 0} (kind : RingKind) (reversed : Bool) (R : Semiring V) (N : Numbering V)
     (laws : KindLaws kind R N reversed) (numbers_are : NumberLaws R N)
     (neutral : (a : V) → R.plus R.zero a ≡ a) {over : Embedding V} (one : IsOneOfThree V kind R N over) where
@@ -135,10 +103,11 @@ module _ {V : Type 0} (kind : RingKind) (reversed : Bool) (R : Semiring V) (N : 
       (λ e. absurd (omega arith)) (fits_each R (length names + 1) system wide small) in
       let header = header_lines (codes "ineqs") kind names refl are few_names
       (lines_of (printed_inequality kind N names) system ++ []) in
-      let all = lines_join {K = AreParts kind names
+      let all = lines_join {K = AreParts (codes "ineqs") (header_of kind names 3)
       (Lines kind reversed R N laws numbers_are neutral names are [] system)}
-      (λ us vs h k. record { head = us; items = vs; whole = refl; header = h; body = k }) header lines.1 in
+      (λ us vs h k. record { head = us; items = vs; whole = refl; first = h; body = k }) header lines.1 in
       lines_whole (λ ps. SpellsInequalities ps (record { names = names; inequalities = over Systems system }))
-      (spelled kind names (over Systems system) (Lines kind reversed R N laws numbers_are neutral names are [] system)
+      (file_spelled (codes "ineqs") AreInequalitiesOf inequality_file (header_of kind names 3) (over Systems system)
+      (Lines kind reversed R N laws numbers_are neutral names are [] system)
       (λ items h. in_kind one (AreInequalitiesOf (header_of kind names 3)) (items ++ InputEnd ∷ []) system
       (listed kind reversed R N laws numbers_are neutral names are system items few h))) all
