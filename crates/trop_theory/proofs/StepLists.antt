@@ -1,6 +1,6 @@
 -- The exact list of the elementary step: what stands in it, how it grows, and that it generates the guarded cone.
--- Index: Contains-chosen, from_chosen, All-chosen, all_chosen, length_chosen, chosen_push, chosen_skip, mixed_more,
--- IsFresh, from_mixed, Contains-mixed, wide_step_list, step_list_is_guard.
+-- Index: chosen_unique, Contains-chosen, from_chosen, All-chosen, all_chosen, length_chosen, chosen_push, chosen_skip,
+-- mixed_more, IsFresh, from_mixed, Contains-mixed, wide_step_list, step_list_is_guard.
 use Rattle.std.proofs.Common.{◌≡◌, ◌≢◌, ◌≤◌, ◌++◌, ℕ, List, [], ◌∷◌, length, inl, inr, ⊎_elim, sym, ap, ◌∙◌, refl, arith, subst, get_or, append_assoc}
 use Rattle.std.specs.Prelude.{All, Contains, ◌↔◌}
 use Rattle.std.specs.List.{AllZip}
@@ -21,6 +21,19 @@ use Rattle.trop_theory.proofs.StepSound.{step_is_guard}
 use Rattle.trop_theory.proofs.Generation.{undo_normal}
 use Rattle.trop_theory.proofs.Narrower.{Stepped, stepped}
 use Rattle.plain_lemmas.proofs.Lists.{Contains-cons, Contains-cons_cases, Contains-none, back_in_zip, there_in_zip}
+
+pub chosen_unique : {X : Type 0} (P : X → Type 0) (xs ys zs : List X) → AreChosen P xs ys → AreChosen P xs zs → ys ≡ zs
+chosen_unique P [] ys zs h k = h ∙ sym k
+chosen_unique P (x ∷ xs) ys zs h k = ⊎_elim
+    (λ a. ⊎_elim
+    (λ b. a.1.1 ∙ ap (λ l. x ∷ l) (chosen_unique P xs a.1.0 b.1.0 a.1.2 b.1.2) ∙ sym b.1.1)
+    (λ b. absurd (b.0 a.0))
+    k)
+    (λ a. ⊎_elim
+    (λ b. absurd (a.0 b.0))
+    (λ b. chosen_unique P xs ys zs a.1 b.1)
+    k)
+    h
 
 module _ {X : Type 0} (P : X → Type 0) where
   pub Contains-chosen : (xs ys : List X) → AreChosen P xs ys → (x : X) → Contains xs x → P x → Contains ys x
