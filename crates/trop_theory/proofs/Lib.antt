@@ -21,6 +21,7 @@ pub mod Chosen
 pub mod Placing
 pub mod Unique
 pub mod Mixed
+pub mod OrderedGroupLaws
 pub mod MaxPlusLaws
 pub mod MinPlusLaws
 pub mod TruthValueLaws

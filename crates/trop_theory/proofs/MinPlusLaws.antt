@@ -1,92 +1,51 @@
 -- The laws of the min-plus semiring.
--- Index: min_laws, min_numeric_laws, min_number_laws, opposite-opposite, opposite-max_plus, opposite-sum_of,
--- magnitude-opposite, same_element-opposite, Le-opposite, opposite_finite.
-use Rattle.std.proofs.Common.{◌≡◌, ◌≢◌, ◌⊎◌, ◌≤◌, max, true, Option, Some, None, inl, inr, sym, ap, ◌∙◌, refl, arith}
-use Rattle.std.specs.Prelude.{ℤ, pos, ◌+ℤ◌, nat_abs, ◌≤ℤ◌, ◌↔◌, neg_ℤ}
+use Rattle.std.proofs.Common.{◌≡◌, ◌≢◌, true, Option, Some, None, sym, ap, ◌∙◌, refl, arith}
+use Rattle.std.specs.Prelude.{ℤ, pos, ◌+ℤ◌, nat_abs, int_lt, ◌≤ℤ◌, ◌↔◌, neg_ℤ}
 use Rattle.std.proofs.lemmas.Int.{ints}
 use Rattle.std.proofs.Math.IntN.{neg_ℤ-neg_ℤ}
 use Rattle.trop_theory.specs.Semiring.{SemiringLaws, Le}
 use Rattle.trop_theory.specs.MaxPlus.{sum_of, magnitude, max_numbering, greater, max_plus, max_ring, opposite, same_element}
 use Rattle.trop_theory.specs.MinPlus.{lesser, min_plus, min_ring}
-use Rattle.trop_theory.proofs.MaxPlusLaws.{some_selective, times_assoc, times_comm, one_neutral, invertible, size_times, size_inverse, discrete, both_of_some, abs_opposite}
+use Rattle.trop_theory.specs.OrderedGroups.{OrderedGroup, OrderedGroupLaws}
+use Rattle.trop_theory.proofs.OrderedGroupLaws.{bottom_laws}
+use Rattle.trop_theory.proofs.MaxPlusLaws.{both_of_some}
 use Rattle.trop_theory.specs.Numbers.{NumberLaws, NumericLaws}
 use Rattle.std.specs.Ordering.{int_eq}
 
-lesser_assoc : (a b c : ℤ) → lesser (lesser a b) c ≡ lesser a (lesser b c)
-lesser_assoc a b c = grind (arith, ints)
+abs_opposite : (a : ℤ) → nat_abs (neg_ℤ a) ≡ nat_abs a
+abs_opposite a = grind (arith, ints)
 
-lesser_comm : (a b : ℤ) → lesser a b ≡ lesser b a
-lesser_comm a b = grind (arith, ints)
+-- the whole numbers with their order reversed
+abbrev reversed_numbers : OrderedGroup ℤ
+reversed_numbers = record {
+  less = λ a b. int_lt b a;
+  neutral = pos 0;
+  sum = ◌+ℤ◌;
+  opposite = neg_ℤ;
+  step = pos 1;
+  size = nat_abs;
+}
 
-lesser_selective : (a b : ℤ) → (lesser a b ≡ a) ⊎ (lesser a b ≡ b)
-lesser_selective a b = grind (arith, ints)
-
-sum-lesser : (a b c : ℤ) → a +ℤ lesser b c ≡ lesser (a +ℤ b) (a +ℤ c)
-sum-lesser a b c = grind (arith, ints)
-
-next_below : (a b : ℤ) → lesser a b ≡ b → a ≢ b → lesser a (pos 1 +ℤ b) ≡ pos 1 +ℤ b
-next_below a b h d = grind (arith, ints)
-
-abs_lesser : (a b : ℤ) → nat_abs (lesser a b) ≤ max (nat_abs a) (nat_abs b)
-abs_lesser a b = grind (arith, ints)
-
-plus_assoc : (a b c : Option ℤ) → min_plus (min_plus a b) c ≡ min_plus a (min_plus b c)
-plus_assoc None b c = refl
-plus_assoc (Some a) None c = refl
-plus_assoc (Some a) (Some b) None = refl
-plus_assoc (Some a) (Some b) (Some c) = ap Some (lesser_assoc a b c)
-
-plus_comm : (a b : Option ℤ) → min_plus a b ≡ min_plus b a
-plus_comm None None = refl
-plus_comm None (Some b) = refl
-plus_comm (Some a) None = refl
-plus_comm (Some a) (Some b) = ap Some (lesser_comm a b)
-
-selective : (a b : Option ℤ) → (min_plus a b ≡ a) ⊎ (min_plus a b ≡ b)
-selective None b = inr refl
-selective (Some a) None = inl refl
-selective (Some a) (Some b) = some_selective a b (lesser a b) (lesser_selective a b)
-
-distributes : (a b c : Option ℤ) → sum_of a (min_plus b c) ≡ min_plus (sum_of a b) (sum_of a c)
-distributes None b c = refl
-distributes (Some a) None c = refl
-distributes (Some a) (Some b) None = refl
-distributes (Some a) (Some b) (Some c) = ap Some (sum-lesser a b c)
-
-delta_next : (a b : Option ℤ) → Le min_ring a b → a ≢ b → Le min_ring a (sum_of (Some (pos 1)) b)
-delta_next None b h d = refl
-delta_next (Some a) None h d = absurd (d h)
-delta_next (Some a) (Some b) h d = let e : lesser a b ≡ b = cc in ap Some (next_below a b e (λ q. d (ap Some q)))
-
-size_plus : (a b : Option ℤ) → magnitude (min_plus a b) ≤ max (magnitude a) (magnitude b)
-size_plus None b = omega arith
-size_plus (Some a) None = omega arith
-size_plus (Some a) (Some b) = abs_lesser a b
+reversed_number_laws : OrderedGroupLaws reversed_numbers
+reversed_number_laws = record {
+  less_apart = λ a b p. grind (arith, ints);
+  less_total = λ a b p q. grind (arith, ints);
+  less_trans = λ a b c p q. grind (arith, ints);
+  less-sum = λ a b c. grind (arith, ints);
+  sum_assoc = λ a b c. omega (arith, ints);
+  sum_comm = λ a b. omega (arith, ints);
+  sum_neutral = λ a. omega (arith, ints);
+  sum_opposite = λ a. omega (arith, ints);
+  step_below = refl;
+  step_next = λ a b p. grind (arith, ints);
+  size_sum = λ a b. grind (arith, ints);
+  size_opposite = λ a. abs_opposite a;
+  size_step = omega arith;
+  size_neutral = refl;
+}
 
 pub min_laws : SemiringLaws min_ring
-min_laws = record {
-  plus_assoc = plus_assoc;
-  plus_comm = plus_comm;
-  selective = selective;
-  zero_neutral = λ a. refl;
-  times_assoc = times_assoc;
-  times_comm = times_comm;
-  distributes = distributes;
-  one_neutral = one_neutral;
-  zero_absorbs = λ a. refl;
-  invertible = invertible;
-  one_finite = λ e. cc;
-  delta_below = refl;
-  delta_differs = λ e. cc;
-  delta_next = delta_next;
-  size_times = size_times;
-  size_inverse = size_inverse;
-  size_plus = size_plus;
-  size_delta = omega arith;
-  size_zero = refl;
-  size_one = refl;
-  discrete = discrete;
-}
+min_laws = bottom_laws reversed_numbers reversed_number_laws
 
 le_lesser : (m n : ℤ) → (m ≤ℤ n) ↔ (Some (lesser n m) ≡ Some m)
 le_lesser m n = (λ h. ap Some (le_to m n h), λ e. to_le m n cc)

@@ -1,5 +1,6 @@
 pub mod Semiring
 pub mod Numbers
+pub mod OrderedGroups
 pub mod Vectors
 pub mod Normal
 pub mod Compare
