@@ -19,7 +19,7 @@ use Rattle.trop_spelling.specs.declared.ring_kind.RingKind.TheVariants.{Max as M
 use Rattle.trop_spelling.specs.declared.terms.Start.{Start}
 use Rattle.trop_spelling.specs.declared.terms.Start.TheVariants.{Constant, Minus, Variable}
 use Rattle.trop_reading.specs.Words.{says, said, line_end, text_of, number}
-use Rattle.trop_spelling.specs.Elements.{max_behind, min_behind}
+use Rattle.trop_spelling.specs.Elements.{max_behind, min_behind, behind_minus}
 use Rattle.trop_spelling.specs.Inequalities.{term_start, max_term, shift_sign, shift, term, IsShifted, IsNumericRest, truth_term, IsTermRest, IsTerm, side_start, between_terms, IsSideRest, IsSide, order_mark, inequality, IsInequalityRest, IsInequality, shifted_at, numeric_rest_at, term_rest_at, term_at, terms_at, side_rest_at, side_at, inequality_rest_at, inequality_at}
 use Rattle.trop_reading.proofs.Samples.{sample, nought, said_reads, line_end_reads}
 use Rattle.trop_spelling.proofs.ElementLaws.{nought_fits}
@@ -107,7 +107,7 @@ module _ {V : Type 0} (R : Semiring V) (N : Numbering V) (bound : ℕ) (names : 
 
   term_rest_reads : (kind : RingKind) (start : Start V) →
       Reads NoShift (term_rest_at kind R N bound start) (IsTermRest kind R N bound start)
-  unfolding term_rest_at
+  unfolding term_rest_at behind_minus
   term_rest_reads MaxKind start = numeric_rest_reads (max_behind R N bound) (sample (codes "oo")) R.zero refl start
   term_rest_reads MinKind start = numeric_rest_reads (min_behind N bound) nought (N.of (neg_ℤ (pos 0)))
       (nought_fits R N bound) start

@@ -30,7 +30,7 @@ abbrev pub min_behind : {V : Type 0} → Numbering V → ℕ → Piece → Resul
 min_behind N bound p = passed (λ n. N.of (neg_ℤ (pos n))) (number bound p)
 
 -- what may stand behind a `-`; in bool no token is one
-abbrev pub behind_minus : {V : Type 0} → RingKind → Semiring V → Numbering V → ℕ → Piece → Result V FaultKind
+unfoldable pub behind_minus : {V : Type 0} → RingKind → Semiring V → Numbering V → ℕ → Piece → Result V FaultKind
 behind_minus MaxKind R N bound p = max_behind R N bound p
 behind_minus MinKind R N bound p = min_behind N bound p
 behind_minus BoolKind R N bound p = Err Syntax

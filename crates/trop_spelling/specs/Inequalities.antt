@@ -19,7 +19,7 @@ use Rattle.trop_spelling.specs.declared.terms.Term.{Term}
 use Rattle.trop_spelling.specs.declared.terms.Start.{Start}
 use Rattle.trop_spelling.specs.declared.terms.Start.TheVariants.{Constant, Minus, Variable}
 use Rattle.trop_reading.specs.Words.{text_of, says, said, line_end, is_digits, number, passed}
-use Rattle.trop_spelling.specs.Elements.{max_behind, min_behind}
+use Rattle.trop_spelling.specs.Elements.{max_behind, min_behind, behind_minus}
 
 -- ---- terms
 
@@ -163,8 +163,8 @@ numeric_rest_at R N bound behind (Variable i) = option_at shift_sign (term i R.o
 
 unfoldable pub term_rest_at : {V : Type 0} → RingKind → Semiring V → Numbering V → ℕ → Start V → List Piece →
     Reading Piece FaultKind (Term V)
-term_rest_at MaxKind R N bound start = numeric_rest_at R N bound (max_behind R N bound) start
-term_rest_at MinKind R N bound start = numeric_rest_at R N bound (min_behind N bound) start
+term_rest_at MaxKind R N bound start = numeric_rest_at R N bound (behind_minus MaxKind R N bound) start
+term_rest_at MinKind R N bound start = numeric_rest_at R N bound (behind_minus MinKind R N bound) start
 term_rest_at BoolKind R N bound start = gives (truth_term R start)
 
 unfoldable pub term_at : {V : Type 0} → RingKind → Semiring V → Numbering V → ℕ → List (List ℕ) → List Piece →

@@ -70,6 +70,7 @@ fn truth<S: Scalar>(piece: Piece<'_>) -> Result<S, FaultKind>
 }
 
 // What may stand behind a `-`; in bool no token is one.
+#[tactic(auto, unfolding(crate::specs::Elements::behind_minus))]
 fn behind_minus<S: Spelling>(piece: Piece<'_>, bound: u64) -> Result<S, FaultKind>
     requires { bound ≤ 2 ^ 48 }
     ensures { result ≡ spec.behind_minus S.KIND S.ring S.numbering bound (piece_of piece.entry) }
@@ -101,7 +102,7 @@ pub(crate) fn element_rest<'a, S: Spelling>(
 }
 
 // An element of the semiring of this name.
-#[tactic(auto, unfolding(trop_grammar::specs::Reading::token_at, trop_grammar::specs::Reading::read_then, crate::specs::Elements::element_at))]
+#[tactic(auto, unfolding(trop_grammar::specs::Reading::token_at, trop_grammar::specs::Reading::read_then, crate::specs::Elements::behind_minus, crate::specs::Elements::element_at))]
 pub(crate) fn element<'a, S: Spelling>(
     at: Pieces<'a>,
     bound: u64,
