@@ -1,5 +1,6 @@
 //! The snippet of README, and the fourth semiring through generic calls, with answers that were worked out by hand.
 ghost use Rattle.std.specs.Prelude.{◌≡◌, [], ◌∷◌, IfOk};
+ghost use Rattle.pair_theory.specs.Pairs.{pair_ring};
 
 use crate::Pair;
 use std::alloc::{AllocError, Global};
@@ -11,40 +12,27 @@ use trop_scalar::{MaxInt, Scalar};
 
 type NoMemory = AllocError;
 
-// The row of two entries.
-fn two<S: Scalar>(alloc: Global, a: S, b: S) -> Result<Row<S>, NoMemory>
-    ensures { IfOk result (λ row. row ≡ a ∷ b ∷ []) }
+// A point with one coordinate.
+fn point(alloc: Global, x: Pair) -> Result<Row<Pair>, NoMemory>
+    ensures { IfOk result (λ row. row ≡ pair_ring.one ∷ x ∷ []) }
 {
-    let mut entries = Vec::new(alloc);
-    entries.push(a)?;
-    entries.push(b)?;
-    Row::from_entries(alloc, entries.as_slice())
-}
-
-// The points with these coordinates.
-fn points<S: Scalar>(alloc: Global, a: S, b: S, c: S) -> Result<Gens<S>, NoMemory>
-    ensures width { IfOk result (λ gens. gens.n ≡ 2) }
-    ensures rows { IfOk result (λ gens. gens.rows ≡ (S.ring.one ∷ a ∷ []) ∷ (S.ring.one ∷ b ∷ []) ∷
-        (S.ring.one ∷ c ∷ []) ∷ []) }
-{
-    let mut gens = Gens::new(alloc, 2);
-    gens.push(two(alloc, S::one(), a)?)?;
-    gens.push(two(alloc, S::one(), b)?)?;
-    gens.push(two(alloc, S::one(), c)?)?;
-    Ok(gens)
+    Row::from_entries(alloc, &[Pair::one(), x])
 }
 
 // The point (0, 5) is the sum of (0, 0) and of (1, 0) times (-1, 5).
 #[test]
 fn a_pair_in_between_goes(rt: HostRuntime) -> Result<(), Fail> {
     let alloc = rt.alloc();
-    let gens = points(alloc, Pair::of(0, 0), Pair::of(0, 5), Pair::of(1, 0))?;
+    let mut gens = Gens::new(alloc, 2);
+    gens.push(point(alloc, Pair::of(0, 0))?)?;
+    gens.push(point(alloc, Pair::of(0, 5))?)?;
+    gens.push(point(alloc, Pair::of(1, 0))?)?;
     let out = reduce(alloc, &gens)?;
     assert_eq!(rt; out.len(), 2);
-    assert!(rt; *out.get(0) == two(alloc, Pair::one(), Pair::of(0, 0))?);
-    assert!(rt; *out.get(1) == two(alloc, Pair::one(), Pair::of(1, 0))?);
-    assert!(rt; member(&out, &two(alloc, Pair::one(), Pair::of(0, 7))?));
-    assert!(rt; !member(&out, &two(alloc, Pair::one(), Pair::of(1, 1))?));
+    assert!(rt; *out.get(0) == point(alloc, Pair::of(0, 0))?);
+    assert!(rt; *out.get(1) == point(alloc, Pair::of(1, 0))?);
+    assert!(rt; member(&out, &point(alloc, Pair::of(0, 7))?));
+    assert!(rt; !member(&out, &point(alloc, Pair::of(1, 1))?));
     Ok(())
 }
 

@@ -12,7 +12,7 @@ use Rattle.trop_theory.specs.Numbers.{NumberLaws, NumericLaws}
 use Rattle.std.specs.Cmp.{IsEquivalence}
 
 -- the whole numbers with their order
-abbrev whole_numbers : OrderedGroup ℤ
+abbrev pub whole_numbers : OrderedGroup ℤ
 whole_numbers = record {
   less = int_lt;
   neutral = pos 0;
@@ -22,7 +22,7 @@ whole_numbers = record {
   size = nat_abs;
 }
 
-whole_number_laws : OrderedGroupLaws whole_numbers
+pub whole_number_laws : OrderedGroupLaws whole_numbers
 whole_number_laws = record {
   less_apart = λ a b p. grind (arith, ints);
   less_total = λ a b p q. grind (arith, ints);

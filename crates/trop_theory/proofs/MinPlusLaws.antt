@@ -1,14 +1,14 @@
 -- The laws of the min-plus semiring.
 use Rattle.std.proofs.Common.{◌≡◌, ◌≢◌, true, Option, Some, None, sym, ap, ◌∙◌, refl, arith}
-use Rattle.std.specs.Prelude.{ℤ, pos, ◌+ℤ◌, nat_abs, int_lt, ◌≤ℤ◌, ◌↔◌, neg_ℤ}
+use Rattle.std.specs.Prelude.{ℤ, pos, ◌+ℤ◌, nat_abs, ◌≤ℤ◌, ◌↔◌, neg_ℤ}
 use Rattle.std.proofs.lemmas.Int.{ints}
 use Rattle.std.proofs.Math.IntN.{neg_ℤ-neg_ℤ}
 use Rattle.trop_theory.specs.Semiring.{SemiringLaws, Le}
 use Rattle.trop_theory.specs.MaxPlus.{sum_of, magnitude, max_numbering, greater, max_plus, max_ring, opposite, same_element}
 use Rattle.trop_theory.specs.MinPlus.{lesser, min_plus, min_ring}
-use Rattle.trop_theory.specs.OrderedGroups.{OrderedGroup, OrderedGroupLaws}
-use Rattle.trop_theory.proofs.OrderedGroupLaws.{bottom_laws}
-use Rattle.trop_theory.proofs.MaxPlusLaws.{both_of_some}
+use Rattle.trop_theory.specs.OrderedGroups.{reversed}
+use Rattle.trop_theory.proofs.OrderedGroupLaws.{bottom_laws, reversed_laws}
+use Rattle.trop_theory.proofs.MaxPlusLaws.{whole_numbers, whole_number_laws, both_of_some}
 use Rattle.trop_theory.specs.Numbers.{NumberLaws, NumericLaws}
 use Rattle.std.specs.Ordering.{int_eq}
 
@@ -16,36 +16,8 @@ abs_opposite : (a : ℤ) → nat_abs (neg_ℤ a) ≡ nat_abs a
 abs_opposite a = grind (arith, ints)
 
 -- the whole numbers with their order reversed
-abbrev reversed_numbers : OrderedGroup ℤ
-reversed_numbers = record {
-  less = λ a b. int_lt b a;
-  neutral = pos 0;
-  sum = ◌+ℤ◌;
-  opposite = neg_ℤ;
-  step = pos 1;
-  size = nat_abs;
-}
-
-reversed_number_laws : OrderedGroupLaws reversed_numbers
-reversed_number_laws = record {
-  less_apart = λ a b p. grind (arith, ints);
-  less_total = λ a b p q. grind (arith, ints);
-  less_trans = λ a b c p q. grind (arith, ints);
-  less-sum = λ a b c. grind (arith, ints);
-  sum_assoc = λ a b c. omega (arith, ints);
-  sum_comm = λ a b. omega (arith, ints);
-  sum_neutral = λ a. omega (arith, ints);
-  sum_opposite = λ a. omega (arith, ints);
-  step_below = refl;
-  step_next = λ a b p. grind (arith, ints);
-  size_sum = λ a b. grind (arith, ints);
-  size_opposite = λ a. abs_opposite a;
-  size_step = omega arith;
-  size_neutral = refl;
-}
-
 pub min_laws : SemiringLaws min_ring
-min_laws = bottom_laws reversed_numbers reversed_number_laws
+min_laws = bottom_laws (reversed whole_numbers) (reversed_laws whole_numbers whole_number_laws)
 
 le_lesser : (m n : ℤ) → (m ≤ℤ n) ↔ (Some (lesser n m) ≡ Some m)
 le_lesser m n = (λ h. ap Some (le_to m n h), λ e. to_le m n cc)

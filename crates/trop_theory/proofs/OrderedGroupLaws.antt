@@ -1,8 +1,8 @@
 -- A totally ordered commutative group with an element below all others keeps the laws of a semiring.
--- Index: bottom_laws.
+-- Index: bottom_laws, reversed_laws.
 use Rattle.std.proofs.Common.{◌≡◌, ◌≢◌, ◌⊎◌, ◌≤◌, ◌+◌, max, Bool, true, false, cond, Option, Some, None, inl, inr, ⊎_elim, sym, ap, ◌∙◌, refl, subst, arith, true≢false}
 use Rattle.trop_theory.specs.Semiring.{SemiringLaws, Le}
-use Rattle.trop_theory.specs.OrderedGroups.{OrderedGroup, OrderedGroupLaws, greater_of, plus_of, times_of, inverse_of, size_of, with_bottom}
+use Rattle.trop_theory.specs.OrderedGroups.{OrderedGroup, OrderedGroupLaws, greater_of, plus_of, times_of, inverse_of, size_of, with_bottom, reversed}
 
 either : (t : Bool) → (t ≡ true) ⊎ (t ≡ false)
 either true = inl refl
@@ -186,4 +186,39 @@ module _ {G : Type 0} (A : OrderedGroup G) (laws : OrderedGroupLaws A) where
     size_zero = refl;
     size_one = laws.size_neutral;
     discrete = discrete;
+  }
+
+  -- ---- the order reversed
+
+  back : (a : G) → A.sum (A.opposite A.step) (A.sum A.step a) ≡ a
+  back a = sym (laws.sum_assoc (A.opposite A.step) A.step a)
+      ∙ ap (λ z. A.sum z a) (laws.sum_comm (A.opposite A.step) A.step ∙ laws.sum_opposite A.step) ∙ laws.sum_neutral a
+
+  -- a step up is the way back from a step down
+  less-back : (a b : G) → A.less a (A.sum (A.opposite A.step) b) ≡ A.less (A.sum A.step a) b
+  less-back a b =
+      ap (λ z. A.less z (A.sum (A.opposite A.step) b)) (sym (back a))
+      ∙ laws.less-sum (A.opposite A.step) (A.sum A.step a) b
+
+  pub reversed_laws : OrderedGroupLaws (reversed A)
+  reversed_laws = record {
+    less_apart = λ a b p. laws.less_apart b a p;
+    less_total = λ a b p q. laws.less_total a b q p;
+    less_trans = λ a b c p q. laws.less_trans c b a q p;
+    less-sum = λ a b c. laws.less-sum a c b;
+    sum_assoc = laws.sum_assoc;
+    sum_comm = laws.sum_comm;
+    sum_neutral = laws.sum_neutral;
+    sum_opposite = laws.sum_opposite;
+    step_below =
+        ap (A.less A.neutral) (sym (laws.sum_neutral (A.opposite A.step))
+        ∙ laws.sum_comm A.neutral (A.opposite A.step))
+        ∙ less-back A.neutral A.neutral
+        ∙ ap (λ z. A.less z A.neutral) (laws.sum_comm A.step A.neutral ∙ laws.sum_neutral A.step)
+        ∙ laws.step_below;
+    step_next = λ a b p. less-back a b ∙ laws.step_next b a p;
+    size_sum = laws.size_sum;
+    size_opposite = laws.size_opposite;
+    size_step = subst (λ n. n ≤ 1) (sym (laws.size_opposite A.step)) laws.size_step;
+    size_neutral = laws.size_neutral;
   }

@@ -28,6 +28,17 @@ pub record OrderedGroupLaws {G : Type 0} (A : OrderedGroup G) : Type 0 where
   pub size_step : A.size A.step ≤ 1
   pub size_neutral : A.size A.neutral ≡ 0
 
+-- the same group with its order reversed
+abbrev pub reversed : {G : Type 0} → OrderedGroup G → OrderedGroup G
+reversed A = record {
+  less = λ a b. A.less b a;
+  neutral = A.neutral;
+  sum = A.sum;
+  opposite = A.opposite;
+  step = A.opposite A.step;
+  size = A.size;
+}
+
 abbrev pub greater_of : {G : Type 0} → OrderedGroup G → G → G → G
 greater_of A a b = cond (A.less a b) b a
 
