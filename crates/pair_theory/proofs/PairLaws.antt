@@ -55,13 +55,13 @@ zero_sum a = omega (arith, ints)
 sum_opposite : (a : ℤ) → a +ℤ neg_ℤ a ≡ pos 0
 sum_opposite a = omega (arith, ints)
 
-both : {x y u v : ℤ} → x ≡ y → u ≡ v → (x, u) ≡ (y, v)
-both p q = ap₂ (λ (a b : ℤ). (a, b)) p q
+both : (a b : ℤ × ℤ) → a.0 ≡ b.0 → a.1 ≡ b.1 → a ≡ b
+both a b p q = ap₂ (λ (x y : ℤ). let t : ℤ × ℤ = (x, y) in t) p q
 
 pair_laws_of_order : OrderedGroupLaws pairs
 pair_laws_of_order = record {
   less_apart = λ a b p. less_apart a.0 a.1 b.0 b.1 p;
-  less_total = λ a b p q. let e = less_total a.0 a.1 b.0 b.1 p q in both e.0 e.1;
+  less_total = λ a b p q. let e = less_total a.0 a.1 b.0 b.1 p q in both a b e.0 e.1;
   less_trans = λ a b c p q. less_trans a.0 a.1 b.0 b.1 c.0 c.1 p q;
   less-sum = λ a b c.
       ap (λ (t : Bool). cond t true (cond (int_lt (a.0 +ℤ c.0) (a.0 +ℤ b.0)) false
@@ -69,10 +69,10 @@ pair_laws_of_order = record {
       ∙ ap (λ (t : Bool). cond (int_lt b.0 c.0) true (cond t false (int_lt (a.1 +ℤ b.1) (a.1 +ℤ c.1))))
       (lt-sum a.0 c.0 b.0)
       ∙ ap (λ (t : Bool). cond (int_lt b.0 c.0) true (cond (int_lt c.0 b.0) false t)) (lt-sum a.1 b.1 c.1);
-  sum_assoc = λ a b c. both (sum_assoc a.0 b.0 c.0) (sum_assoc a.1 b.1 c.1);
-  sum_comm = λ a b. both (sum_comm a.0 b.0) (sum_comm a.1 b.1);
-  sum_neutral = λ a. both (zero_sum a.0) (zero_sum a.1);
-  sum_opposite = λ a. both (sum_opposite a.0) (sum_opposite a.1);
+  sum_assoc = λ a b c. both _ _ (sum_assoc a.0 b.0 c.0) (sum_assoc a.1 b.1 c.1);
+  sum_comm = λ a b. both _ _ (sum_comm a.0 b.0) (sum_comm a.1 b.1);
+  sum_neutral = λ a. both _ _ (zero_sum a.0) (zero_sum a.1);
+  sum_opposite = λ a. both _ _ (sum_opposite a.0) (sum_opposite a.1);
   step_below = refl;
   step_next = λ a b p. step_next a.0 a.1 b.0 b.1 p;
   size_sum = λ a b. let p = abs-sum a.0 b.0 in let q = abs-sum a.1 b.1 in omega (arith, p, q);
@@ -102,7 +102,7 @@ true_both b c p q = ap (λ (t : Bool). t && c) p ∙ q
 
 same_from : (a b : ℤ × ℤ) → (int_eq a.0 b.0 && int_eq a.1 b.1) ≡ true → a ≡ b
 same_from a b h = let t = both_true (int_eq a.0 b.0) (int_eq a.1 b.1) h in
-    both ((Decides-int_eq a.0 b.0).0 t.0) ((Decides-int_eq a.1 b.1).0 t.1)
+    both a b ((Decides-int_eq a.0 b.0).0 t.0) ((Decides-int_eq a.1 b.1).0 t.1)
 
 to_same : (a b : ℤ × ℤ) → a ≡ b → (int_eq a.0 b.0 && int_eq a.1 b.1) ≡ true
 to_same a b e = true_both (int_eq a.0 b.0) (int_eq a.1 b.1)
