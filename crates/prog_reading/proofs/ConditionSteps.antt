@@ -26,19 +26,23 @@ module _ (L : Limits) (names : List (List ℕ)) where
   inner_at zero = nowhere
   inner_at (suc d) = negation_at L names d
 
-  negation_is : (d : ℕ) (ts : List Counted) → negation_at L names d ts ≡ go_on (begun d ts) (negation_rest L names (inner_at d))
+  negation_is : (d : ℕ) (ts : List Counted) → negation_at L names d ts ≡ go_on (begun d ts)
+      (negation_rest L names (inner_at d))
   unfolding negation_at read_then
   negation_is zero ts = refl
-  negation_is (suc d) ts = ap (λ b. go_on (token_past skipped Syntax (start L names b) ts) (negation_rest L names (negation_at L names d))) (sym (has_room d))
+  negation_is (suc d) ts = ap (λ b. go_on (token_past skipped Syntax (start L names b) ts)
+      (negation_rest L names (negation_at L names d))) (sym (has_room d))
 
-  pub negation_fails : (d : ℕ) (ts : List Counted) (miss : Miss Counted FaultKind) → begun d ts ≡ Err miss → negation_at L names d ts ≡ Err miss
+  pub negation_fails : (d : ℕ) (ts : List Counted) (miss : Miss Counted FaultKind) → begun d ts ≡ Err miss →
+      negation_at L names d ts ≡ Err miss
   negation_fails d ts miss e = negation_is d ts ∙ ap (λ z. go_on z (negation_rest L names (inner_at d))) e
 
   pub at_ask : (d : ℕ) (ts us : List Counted) → begun d ts ≡ Ok (Ask, us) → negation_at L names d ts ≡ Ok (Any, us)
   unfolding negation_rest gives
   at_ask d ts us e = negation_is d ts ∙ ap (λ z. go_on z (negation_rest L names (inner_at d))) e
 
-  pub at_compare : (d : ℕ) (ts us : List Counted) (f : First) → begun d ts ≡ Ok (Compare f, us) → negation_at L names d ts ≡ read_then (operand_rest L f) (compared_at L names) us
+  pub at_compare : (d : ℕ) (ts us : List Counted) (f : First) → begun d ts ≡ Ok (Compare f, us) →
+      negation_at L names d ts ≡ read_then (operand_rest L f) (compared_at L names) us
   unfolding negation_rest
   at_compare d ts us f e = negation_is d ts ∙ ap (λ z. go_on z (negation_rest L names (inner_at d))) e
 
@@ -46,17 +50,24 @@ module _ (L : Limits) (names : List (List ℕ)) where
   inner_same zero h = absurd (omega arith)
   inner_same (suc d) h = let e : suc d - 1 ≡ d = omega arith in ap (negation_at L names) (sym e)
 
-  at_bang : (d : ℕ) (ts us : List Counted) → 0 < d → begun d ts ≡ Ok (Bang, us) → negation_at L names d ts ≡ go_on (negation_at L names (d - 1) us) (λ x. gives (Not x))
+  at_bang : (d : ℕ) (ts us : List Counted) → 0 < d → begun d ts ≡ Ok (Bang, us) →
+      negation_at L names d ts ≡ go_on (negation_at L names (d - 1) us) (λ x. gives (Not x))
   unfolding negation_rest read_then
-  at_bang d ts us h e = negation_is d ts ∙ ap (λ z. go_on z (negation_rest L names (inner_at d))) e ∙ ap (λ z. go_on (z us) (λ x. gives (Not x))) (inner_same d h)
+  at_bang d ts us h e = negation_is d ts ∙ ap (λ z. go_on z (negation_rest L names (inner_at d))) e
+      ∙ ap (λ z. go_on (z us) (λ x. gives (Not x))) (inner_same d h)
 
-  pub at_bang_ok : (d : ℕ) (ts us : List Counted) (x : Cond) (rest : List Counted) → 0 < d → begun d ts ≡ Ok (Bang, us) → negation_at L names (d - 1) us ≡ Ok (x, rest) → negation_at L names d ts ≡ Ok (Not x, rest)
+  pub at_bang_ok : (d : ℕ) (ts us : List Counted) (x : Cond) (rest : List Counted) → 0 < d →
+      begun d ts ≡ Ok (Bang, us) → negation_at L names (d - 1) us ≡ Ok (x, rest) →
+      negation_at L names d ts ≡ Ok (Not x, rest)
   unfolding gives
   at_bang_ok d ts us x rest h e k = at_bang d ts us h e ∙ ap (λ z. go_on z (λ x. gives (Not x))) k
 
-  pub at_bang_err : (d : ℕ) (ts us : List Counted) (miss : Miss Counted FaultKind) → 0 < d → begun d ts ≡ Ok (Bang, us) → negation_at L names (d - 1) us ≡ Err miss → negation_at L names d ts ≡ Err miss
+  pub at_bang_err : (d : ℕ) (ts us : List Counted) (miss : Miss Counted FaultKind) → 0 < d →
+      begun d ts ≡ Ok (Bang, us) → negation_at L names (d - 1) us ≡ Err miss → negation_at L names d ts ≡ Err miss
   at_bang_err d ts us miss h e k = at_bang d ts us h e ∙ ap (λ z. go_on z (λ x. gives (Not x))) k
 
-  pub at_bracket : (d : ℕ) (ts us : List Counted) → 0 < d → begun d ts ≡ Ok (Bracket, us) → negation_at L names d ts ≡ bracket_at (negation_at L names (d - 1)) us
+  pub at_bracket : (d : ℕ) (ts us : List Counted) → 0 < d → begun d ts ≡ Ok (Bracket, us) →
+      negation_at L names d ts ≡ bracket_at (negation_at L names (d - 1)) us
   unfolding negation_rest
-  at_bracket d ts us h e = negation_is d ts ∙ ap (λ z. go_on z (negation_rest L names (inner_at d))) e ∙ ap (λ z. bracket_at z us) (inner_same d h)
+  at_bracket d ts us h e = negation_is d ts ∙ ap (λ z. go_on z (negation_rest L names (inner_at d))) e
+      ∙ ap (λ z. bracket_at z us) (inner_same d h)

@@ -44,13 +44,15 @@ Held view None word = word ≡ None
 Held view (Some x) word = word ≡ Some (view x)
 
 -- the next token lets a part with this value begin, and these stand behind it
-pub record IsBegun {A : Type 0} (judge : Counted → Option (Result A FaultKind)) (ts : List Counted) (a : A) (rest : List Counted) : Type 0 where
+pub record IsBegun {A : Type 0} (judge : Counted → Option (Result A FaultKind)) (ts : List Counted) (a : A)
+    (rest : List Counted) : Type 0 where
   pub token : Counted
   pub whole : past skipped ts ≡ token ∷ rest
   pub is : judge token ≡ Some (Ok a)
 
 -- something is wrong with the next token, which is the first of the rest
-pub record IsBad {A : Type 0} (judge : Counted → Option (Result A FaultKind)) (ts : List Counted) (what : FaultKind) (rest : List Counted) : Type 0 where
+pub record IsBad {A : Type 0} (judge : Counted → Option (Result A FaultKind)) (ts : List Counted) (what : FaultKind)
+    (rest : List Counted) : Type 0 where
   pub token : Counted
   pub behind : List Counted
   pub whole : past skipped ts ≡ token ∷ behind
@@ -62,14 +64,16 @@ abbrev pub NoneBegins : {A : Type 0} → (Counted → Option (Result A FaultKind
 NoneBegins judge ts = Heads (λ t. judge t ≡ None) (past skipped ts)
 
 -- what a part begins with that may be left out
-abbrev pub Begins : {X A : Type 0} → (X → A) → (Counted → Option (Result A FaultKind)) → List Counted → Result (Option (X × At)) ReadErr → Type 0
+abbrev pub Begins : {X A : Type 0} → (X → A) → (Counted → Option (Result A FaultKind)) → List Counted →
+    Result (Option (X × At)) ReadErr → Type 0
 Begins view judge ts (Ok None) = NoneBegins judge ts
 Begins view judge ts (Ok (Some x)) = IsBegun judge ts (view x.0) (left x.1)
 Begins view judge ts (Err errors.NoMemory) = ⊥
 Begins view judge ts (Err (errors.Wrong what at)) = IsBad judge ts what (left at)
 
 -- the same of a judge that finds nothing wrong
-abbrev pub Follows : {X A : Type 0} → (X → A) → (Counted → Option (Result A FaultKind)) → List Counted → Option (X × At) → Type 0
+abbrev pub Follows : {X A : Type 0} → (X → A) → (Counted → Option (Result A FaultKind)) → List Counted →
+    Option (X × At) → Type 0
 Follows view judge ts None = NoneBegins judge ts
 Follows view judge ts (Some x) = IsBegun judge ts (view x.0) (left x.1)
 

@@ -9,7 +9,16 @@ use Rattle.prog_reading.specs.declared.at.At.{At}
 
 -- what the program knows of the text before a piece
 abbrev pub before_of : Before → spec.Before
-before_of b = record { last = b.last.now; sums = b.sums; declares = b.declares; names = b.names; commas = b.commas; statements = b.statements; atoms = b.atoms }
+before_of b = record {
+  last = b.last.now;
+  sums = b.sums;
+  declares = b.declares;
+  names = b.names;
+  commas =
+      b.commas;
+  statements = b.statements;
+  atoms = b.atoms;
+}
 
 -- a piece that the program holds
 abbrev pub entry_of : Entry → Counted

@@ -40,7 +40,8 @@ pub enum SideStart {
 // The first token of a side. The rule is judged at the word.
 fn side_start(names: &Names, rule: AssertRule, entry: Entry<'_>) -> Result<SideStart, FaultKind>
     requires { length names.now ≤ 63 }
-    ensures { Passed side_start_of result (spec.side_start program_limits (rule_of rule) names.now (entry_of entry.entry)) }
+    ensures { Passed side_start_of result (spec.side_start program_limits (rule_of rule) names.now
+        (entry_of entry.entry)) }
 {
     let against = rule.is_against(entry.text());
     if entry.says(b"max") {
@@ -67,7 +68,8 @@ fn begin<'a>(
     at: At<'a>,
 ) -> Result<(SideStart, At<'a>), ReadErr<'a>>
     requires { length names.now ≤ 63 }
-    ensures gives { Gives (λ x. (side_start_of x.0, left x.1)) result (token_past skipped Syntax (spec.side_start program_limits (rule_of rule) names.now) (left at.entry)) }
+    ensures gives { Gives (λ x. (side_start_of x.0, left x.1)) result
+        (token_past skipped Syntax (spec.side_start program_limits (rule_of rule) names.now) (left at.entry)) }
     ensures source { IfOk result (λ x. source_of x.1 ≡ source_of at.entry) }
     ensures shorter { IfOk result (λ x. length (left x.1) ≤ length (left at.entry)) }
 {
@@ -86,7 +88,8 @@ fn more_terms<'a>(
     at: At<'a>,
 ) -> Result<(Terms, At<'a>), ReadErr<'a>>
     requires { length names.now ≤ 63 }
-    ensures gives { Gives (λ x. (x.0, left x.1)) result (spec.terms_from program_limits names.now (term_of first) (left at.entry)) }
+    ensures gives { Gives (λ x. (x.0, left x.1)) result
+        (spec.terms_from program_limits names.now (term_of first) (left at.entry)) }
     ensures some { IfOk result (λ x. 0 < length x.0) }
     ensures source { IfOk result (λ x. source_of x.1 ≡ source_of at.entry) }
     ensures shorter { IfOk result (λ x. length (left x.1) ≤ length (left at.entry)) }
@@ -112,7 +115,8 @@ fn listed<'a>(
 ) -> Result<(Side, At<'a>), ReadErr<'a>>
     requires names { length names.now ≤ 63 }
     requires sums { IsSum (word_of word) }
-    ensures gives { Gives (λ x. (x.0, left x.1)) result (spec.listed_at program_limits names.now (word_of word) (left at.entry)) }
+    ensures gives { Gives (λ x. (x.0, left x.1)) result
+        (spec.listed_at program_limits names.now (word_of word) (left at.entry)) }
     ensures source { IfOk result (λ x. source_of x.1 ≡ source_of at.entry) }
     ensures shorter { IfOk result (λ x. length (left x.1) ≤ length (left at.entry)) }
 {
@@ -145,7 +149,8 @@ fn side_rest<'a>(
     at: At<'a>,
 ) -> Result<(Side, At<'a>), ReadErr<'a>>
     requires { length names.now ≤ 63 }
-    ensures gives { Gives (λ x. (x.0, left x.1)) result (spec.side_rest program_limits names.now (side_start_of start) (left at.entry)) }
+    ensures gives { Gives (λ x. (x.0, left x.1)) result
+        (spec.side_rest program_limits names.now (side_start_of start) (left at.entry)) }
     ensures source { IfOk result (λ x. source_of x.1 ≡ source_of at.entry) }
     ensures shorter { IfOk result (λ x. length (left x.1) ≤ length (left at.entry)) }
 {
@@ -165,7 +170,8 @@ fn side<'a>(
     at: At<'a>,
 ) -> Result<(Side, At<'a>), ReadErr<'a>>
     requires { length names.now ≤ 63 }
-    ensures gives { Gives (λ x. (x.0, left x.1)) result (spec.side_at program_limits (rule_of rule) names.now (left at.entry)) }
+    ensures gives { Gives (λ x. (x.0, left x.1)) result
+        (spec.side_at program_limits (rule_of rule) names.now (left at.entry)) }
     ensures source { IfOk result (λ x. source_of x.1 ≡ source_of at.entry) }
     ensures shorter { IfOk result (λ x. length (left x.1) ≤ length (left at.entry)) }
 {
@@ -215,7 +221,8 @@ pub fn claim<'a>(
     at: At<'a>,
 ) -> Result<(Claim, At<'a>), ReadErr<'a>>
     requires { length names.now ≤ 63 }
-    ensures gives { Gives (λ x. (claim_of x.0, left x.1)) result (spec.claim_at program_limits (rule_of rule) names.now (left at.entry)) }
+    ensures gives { Gives (λ x. (claim_of x.0, left x.1)) result
+        (spec.claim_at program_limits (rule_of rule) names.now (left at.entry)) }
     ensures source { IfOk result (λ x. source_of x.1 ≡ source_of at.entry) }
     ensures shorter { IfOk result (λ x. length (left x.1) ≤ length (left at.entry)) }
 {

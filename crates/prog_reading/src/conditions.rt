@@ -78,7 +78,8 @@ fn start_token(names: &Names, room: bool, entry: Entry<'_>) -> Result<Start, Fau
 #[tactic(auto, unfolding(trop_grammar::specs::Reading::token_at, shape_grammar::specs::Steps::token_past))]
 fn begin<'a>(names: &Names, room: bool, at: At<'a>) -> Result<(Start, At<'a>), ReadErr<'a>>
     requires { length names.now ≤ 63 }
-    ensures gives { Gives (λ x. (start_of x.0, left x.1)) result (token_past skipped Syntax (spec.start program_limits names.now room) (left at.entry)) }
+    ensures gives { Gives (λ x. (start_of x.0, left x.1)) result
+        (token_past skipped Syntax (spec.start program_limits names.now room) (left at.entry)) }
     ensures room { IfOk result (λ x. IsRoomy room x.0) }
     ensures source { IfOk result (λ x. source_of x.1 ≡ source_of at.entry) }
     ensures shorter { IfOk result (λ x. length (left x.1) ≤ length (left at.entry)) }
@@ -133,7 +134,8 @@ fn comparison<'a>(at: At<'a>) -> Result<(Cmp, At<'a>), ReadErr<'a>>
 #[tactic(auto, unfolding(trop_grammar::specs::Reading::read_then, trop_grammar::specs::Reading::gives, prog_texts::specs::Conditions::compared_at))]
 fn compared<'a>(names: &Names, term: Term, at: At<'a>) -> Result<(Cond, At<'a>), ReadErr<'a>>
     requires { length names.now ≤ 63 }
-    ensures gives { Gives (λ x. (x.0, left x.1)) result (spec.compared_at program_limits names.now (term_of term) (left at.entry)) }
+    ensures gives { Gives (λ x. (x.0, left x.1)) result
+        (spec.compared_at program_limits names.now (term_of term) (left at.entry)) }
     ensures source { IfOk result (λ x. source_of x.1 ≡ source_of at.entry) }
     ensures shorter { IfOk result (λ x. length (left x.1) ≤ length (left at.entry)) }
 {
@@ -150,7 +152,9 @@ fn comparison_rest<'a>(
     at: At<'a>,
 ) -> Result<(Cond, At<'a>), ReadErr<'a>>
     requires { length names.now ≤ 63 }
-    ensures gives { Gives (λ x. (x.0, left x.1)) result (read_then (operands.operand_rest program_limits (first_of first)) (spec.compared_at program_limits names.now) (left at.entry)) }
+    ensures gives { Gives (λ x. (x.0, left x.1)) result
+        (read_then (operands.operand_rest program_limits (first_of first)) (spec.compared_at program_limits names.now)
+        (left at.entry)) }
     ensures source { IfOk result (λ x. source_of x.1 ≡ source_of at.entry) }
     ensures shorter { IfOk result (λ x. length (left x.1) ≤ length (left at.entry)) }
 {
@@ -167,7 +171,8 @@ fn negation<'a>(
     at: At<'a>,
 ) -> Result<(Cond, At<'a>), ReadErr<'a>>
     requires { length names.now ≤ 63 }
-    ensures gives { Gives (λ x. (x.0, left x.1)) result (spec.negation_at program_limits names.now depth (left at.entry)) }
+    ensures gives { Gives (λ x. (x.0, left x.1)) result
+        (spec.negation_at program_limits names.now depth (left at.entry)) }
     ensures source { IfOk result (λ x. source_of x.1 ≡ source_of at.entry) }
     ensures shorter { IfOk result (λ x. length (left x.1) ≤ length (left at.entry)) }
 {
@@ -194,7 +199,8 @@ fn bracketed<'a>(
     at: At<'a>,
 ) -> Result<(Cond, At<'a>), ReadErr<'a>>
     requires { length names.now ≤ 63 }
-    ensures gives { Gives (λ x. (x.0, left x.1)) result (spec.bracket_at (spec.negation_at program_limits names.now depth) (left at.entry)) }
+    ensures gives { Gives (λ x. (x.0, left x.1)) result
+        (spec.bracket_at (spec.negation_at program_limits names.now depth) (left at.entry)) }
     ensures source { IfOk result (λ x. source_of x.1 ≡ source_of at.entry) }
     ensures shorter { IfOk result (λ x. length (left x.1) ≤ length (left at.entry)) }
 {
@@ -212,7 +218,8 @@ fn conjunction<'a>(
     at: At<'a>,
 ) -> Result<(Cond, At<'a>), ReadErr<'a>>
     requires { length names.now ≤ 63 }
-    ensures gives { Gives (λ x. (x.0, left x.1)) result (spec.chain_at (codes "&&") tree.And (spec.negation_at program_limits names.now depth) (left at.entry)) }
+    ensures gives { Gives (λ x. (x.0, left x.1)) result
+        (spec.chain_at (codes "&&") tree.And (spec.negation_at program_limits names.now depth) (left at.entry)) }
     ensures source { IfOk result (λ x. source_of x.1 ≡ source_of at.entry) }
     ensures shorter { IfOk result (λ x. length (left x.1) ≤ length (left at.entry)) }
 {
@@ -236,7 +243,8 @@ pub fn condition<'a>(
     at: At<'a>,
 ) -> Result<(Cond, At<'a>), ReadErr<'a>>
     requires { length names.now ≤ 63 }
-    ensures gives { Gives (λ x. (x.0, left x.1)) result (spec.condition_at program_limits names.now depth (left at.entry)) }
+    ensures gives { Gives (λ x. (x.0, left x.1)) result
+        (spec.condition_at program_limits names.now depth (left at.entry)) }
     ensures source { IfOk result (λ x. source_of x.1 ≡ source_of at.entry) }
     ensures shorter { IfOk result (λ x. length (left x.1) ≤ length (left at.entry)) }
 {

@@ -1,6 +1,6 @@
-//! What readers of programs stand on: the pieces of a text with what stands before each, single tokens, and the parts of
-//! statements: operands, conditions and claims. Each reader follows a reading function of `prog_texts`; `specs/Gives`
-//! says how.
+//! What readers of programs stand on: the pieces of a text with what stands before each, single tokens, and the parts
+//! of statements: operands, conditions and claims. Each reader follows a reading function of `prog_texts`;
+//! `specs/Gives` says how.
 #![tactic(auto)]
 
 mod assert_rule;

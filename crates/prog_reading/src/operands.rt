@@ -72,7 +72,8 @@ fn next_way<'a>(at: At<'a>) -> Option<(Way, At<'a>)>
 // The number behind a sign, added to a variable or taken away.
 #[tactic(auto, unfolding(trop_grammar::specs::Reading::read_then, trop_grammar::specs::Reading::gives, prog_texts::specs::Operands::moved_at))]
 fn moved<'a>(coord: u32, way: Way, at: At<'a>) -> Result<(Term, At<'a>), ReadErr<'a>>
-    ensures gives { Gives (λ x. (term_of x.0, left x.1)) result (spec.moved_at program_limits coord (way_of way) (left at.entry)) }
+    ensures gives { Gives (λ x. (term_of x.0, left x.1)) result
+        (spec.moved_at program_limits coord (way_of way) (left at.entry)) }
     ensures source { IfOk result (λ x. source_of x.1 ≡ source_of at.entry) }
     ensures shorter { IfOk result (λ x. length (left x.1) ≤ length (left at.entry)) }
 {
@@ -88,7 +89,8 @@ fn moved<'a>(coord: u32, way: Way, at: At<'a>) -> Result<(Term, At<'a>), ReadErr
 // The number behind a `-`, taken away from 0.
 #[tactic(auto, unfolding(trop_grammar::specs::Reading::read_then, trop_grammar::specs::Reading::gives, prog_texts::specs::Operands::operand_rest))]
 fn negative<'a>(at: At<'a>) -> Result<(Term, At<'a>), ReadErr<'a>>
-    ensures gives { Gives (λ x. (term_of x.0, left x.1)) result (spec.operand_rest program_limits spec.Negative (left at.entry)) }
+    ensures gives { Gives (λ x. (term_of x.0, left x.1)) result
+        (spec.operand_rest program_limits spec.Negative (left at.entry)) }
     ensures source { IfOk result (λ x. source_of x.1 ≡ source_of at.entry) }
     ensures shorter { IfOk result (λ x. length (left x.1) ≤ length (left at.entry)) }
 {
@@ -99,7 +101,8 @@ fn negative<'a>(at: At<'a>) -> Result<(Term, At<'a>), ReadErr<'a>>
 
 // A variable, with what may be added to it.
 fn with_sum<'a>(coord: u32, at: At<'a>) -> Result<(Term, At<'a>), ReadErr<'a>>
-    ensures gives { Gives (λ x. (term_of x.0, left x.1)) result (spec.operand_rest program_limits (spec.Variable coord) (left at.entry)) }
+    ensures gives { Gives (λ x. (term_of x.0, left x.1)) result
+        (spec.operand_rest program_limits (spec.Variable coord) (left at.entry)) }
     ensures source { IfOk result (λ x. source_of x.1 ≡ source_of at.entry) }
     ensures shorter { IfOk result (λ x. length (left x.1) ≤ length (left at.entry)) }
 {
@@ -112,7 +115,8 @@ fn with_sum<'a>(coord: u32, at: At<'a>) -> Result<(Term, At<'a>), ReadErr<'a>>
 /// The rest of an operand, behind its first token.
 #[tactic(auto, unfolding(trop_grammar::specs::Reading::gives, prog_texts::specs::Operands::operand_rest))]
 pub fn operand_rest<'a>(first: First, at: At<'a>) -> Result<(Term, At<'a>), ReadErr<'a>>
-    ensures gives { Gives (λ x. (term_of x.0, left x.1)) result (spec.operand_rest program_limits (first_of first) (left at.entry)) }
+    ensures gives { Gives (λ x. (term_of x.0, left x.1)) result
+        (spec.operand_rest program_limits (first_of first) (left at.entry)) }
     ensures source { IfOk result (λ x. source_of x.1 ≡ source_of at.entry) }
     ensures shorter { IfOk result (λ x. length (left x.1) ≤ length (left at.entry)) }
 {
@@ -130,7 +134,8 @@ pub fn operand_rest<'a>(first: First, at: At<'a>) -> Result<(Term, At<'a>), Read
 #[tactic(auto, unfolding(trop_grammar::specs::Reading::token_at, shape_grammar::specs::Steps::token_past))]
 fn begin<'a>(names: &Names, at: At<'a>) -> Result<(First, At<'a>), ReadErr<'a>>
     requires { length names.now ≤ 63 }
-    ensures gives { Gives (λ x. (first_of x.0, left x.1)) result (token_past skipped Syntax (spec.first program_limits names.now) (left at.entry)) }
+    ensures gives { Gives (λ x. (first_of x.0, left x.1)) result
+        (token_past skipped Syntax (spec.first program_limits names.now) (left at.entry)) }
     ensures source { IfOk result (λ x. source_of x.1 ≡ source_of at.entry) }
     ensures shorter { IfOk result (λ x. length (left x.1) ≤ length (left at.entry)) }
 {
@@ -145,7 +150,8 @@ fn begin<'a>(names: &Names, at: At<'a>) -> Result<(First, At<'a>), ReadErr<'a>>
 #[tactic(auto, unfolding(trop_grammar::specs::Reading::read_then))]
 pub fn operand<'a>(names: &Names, at: At<'a>) -> Result<(Term, At<'a>), ReadErr<'a>>
     requires { length names.now ≤ 63 }
-    ensures gives { Gives (λ x. (term_of x.0, left x.1)) result (spec.operand_at program_limits names.now (left at.entry)) }
+    ensures gives { Gives (λ x. (term_of x.0, left x.1)) result
+        (spec.operand_at program_limits names.now (left at.entry)) }
     ensures source { IfOk result (λ x. source_of x.1 ≡ source_of at.entry) }
     ensures shorter { IfOk result (λ x. length (left x.1) ≤ length (left at.entry)) }
 {

@@ -94,7 +94,8 @@ pub fn settle<'a, X>(
 /// This word or sign.
 #[tactic(auto, unfolding(prog_texts::specs::Words::counted, trop_grammar::specs::Reading::token_at, shape_grammar::specs::Steps::token_past))]
 pub fn said<'a>(at: At<'a>, text: &[u8]) -> Result<At<'a>, ReadErr<'a>>
-    ensures gives { Gives (λ rest. (tt, left rest)) result (token_past skipped Syntax (spec.said text.now) (left at.entry)) }
+    ensures gives { Gives (λ rest. (tt, left rest)) result
+        (token_past skipped Syntax (spec.said text.now) (left at.entry)) }
     ensures source { IfOk result (λ rest. source_of rest ≡ source_of at.entry) }
     ensures shorter { IfOk result (λ rest. length (left rest) ≤ length (left at.entry)) }
 {

@@ -20,7 +20,8 @@ decreases-bracketed l = 4 * l.depth + 3
 
 abbrev pub invariant-conjunction-links : goal.invariant-conjunction-links
 invariant-conjunction-links l =
-    IsLinked (codes "&&") And (spec.negation_at program_limits l.names l.depth) l.all (left l.rest) (spec.chain_at (codes "&&") And (spec.negation_at program_limits l.names l.depth) (left l.at))
+    IsLinked (codes "&&") And (spec.negation_at program_limits l.names l.depth) l.all (left l.rest)
+    (spec.chain_at (codes "&&") And (spec.negation_at program_limits l.names l.depth) (left l.at))
     × (source_of l.rest ≡ source_of l.at) × (length (left l.rest) ≤ length (left l.at))
 
 abbrev pub decreases-conjunction-links : goal.decreases-conjunction-links
@@ -28,7 +29,8 @@ decreases-conjunction-links l = length (left l.rest)
 
 abbrev pub invariant-condition-links : goal.invariant-condition-links
 invariant-condition-links l =
-    IsLinked (codes "||") Or (spec.chain_at (codes "&&") And (spec.negation_at program_limits l.names l.depth)) l.all (left l.rest) (spec.condition_at program_limits l.names l.depth (left l.at))
+    IsLinked (codes "||") Or (spec.chain_at (codes "&&") And (spec.negation_at program_limits l.names l.depth)) l.all
+    (left l.rest) (spec.condition_at program_limits l.names l.depth (left l.at))
     × (source_of l.rest ≡ source_of l.at) × (length (left l.rest) ≤ length (left l.at))
 
 abbrev pub decreases-condition-links : goal.decreases-condition-links

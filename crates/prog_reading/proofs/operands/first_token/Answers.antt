@@ -5,4 +5,5 @@ use Rattle.prog_reading.proofs.OperandSteps.{first_unknown}
 use Rattle.prog_reading.proofs.operands.first_token.Goals as goal
 
 pub returns-in-Err : goal.returns-in-Err
-returns-in-Err c = first_unknown program_limits c.args.names.now (entry_of c.args.entry) _ (sym c.is_digits.ensures ∙ c.if-is_digits.false) (sym c.says.ensures ∙ c.if-says.false) (sym c.in-Err.ensures)
+returns-in-Err c = first_unknown program_limits c.args.names.now (entry_of c.args.entry) _
+    (sym c.is_digits.ensures ∙ c.if-is_digits.false) (sym c.says.ensures ∙ c.if-says.false) (sym c.in-Err.ensures)

@@ -13,4 +13,10 @@ invariant_of-result c =
     let commas = ap (λ (z : Before). z.commas) e in
     let statements = ap (λ (z : Before). z.statements) e in
     let atoms = ap (λ (z : Before). z.atoms) e in
-    record { names_fit = omega (arith, h, k, names); commas_fit = omega (arith, h, k, commas); statements_fit = omega (arith, h, k, statements); atoms_fit = omega (arith, h, k, atoms) }
+    record {
+      names_fit = omega (arith, h, k, names);
+      commas_fit = omega (arith, h, k, commas);
+      statements_fit =
+          omega (arith, h, k, statements);
+      atoms_fit = omega (arith, h, k, atoms);
+    }

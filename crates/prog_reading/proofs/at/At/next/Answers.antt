@@ -9,4 +9,10 @@ invariant_of-result c =
     let t = entry_of (record { piece = c.in_ok-piece.piece; before = c.args.self.before }) in
     let e = c.behind-before.ensures in
     let k = c.in_ok-piece.ensures.pieces in
-    record { names_fit = names_fit r t _ _ _ e k s.names_fit; commas_fit = commas_fit r t _ _ _ e k s.commas_fit; statements_fit = statements_fit r t _ _ _ e k s.statements_fit; atoms_fit = atoms_fit r t _ _ _ e k s.atoms_fit }
+    record {
+      names_fit = names_fit r t _ _ _ e k s.names_fit;
+      commas_fit = commas_fit r t _ _ _ e k s.commas_fit;
+      statements_fit = statements_fit r t _ _ _ e k s.statements_fit;
+      atoms_fit =
+          atoms_fit r t _ _ _ e k s.atoms_fit;
+    }
