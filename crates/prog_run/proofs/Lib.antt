@@ -1,0 +1,6 @@
+pub mod Values
+pub mod Stacks
+pub mod Keeps
+pub mod Going
+pub mod Causes
+pub mod Programs
