@@ -1,4 +1,5 @@
-//! The program `tplib`: standard input, output and error, and the words of the command line, handed to [`tplib_cmd::run`].
+//! The program `tplib`: standard input, output and error, and the words of the command line, handed to
+//! [`tplib_cmd::run`].
 #![tactic(auto)]
 
 use std::env;

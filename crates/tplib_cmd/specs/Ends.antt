@@ -1,71 +1,100 @@
 -- How a run ends.
-use Rattle.std.specs.Prelude.{◌≡◌, ◌⊎◌, ℕ, List}
+use Rattle.std.specs.Prelude.{◌≡◌, ◌⊎◌, ℕ, Bool, true, false, List}
 use Rattle.trop_io.specs.Faults.{Rose}
 use Rattle.trop_words.specs.declared.command.Command.{Command}
-use Rattle.tplib_cmd.specs.declared.status.Stop.{Stop}
+use Rattle.tplib_reply.specs.declared.refusal.Refusal.{Refusal}
+use Rattle.tplib_reply.specs.declared.refusal.Refusal.TheVariants as refusals
+use Rattle.tplib_reply.specs.Meaning.{IsAnswered, IsRefused, IsRunnable}
 use Rattle.tplib_cmd.specs.declared.status.Status.{Status}
 use Rattle.tplib_cmd.specs.declared.status.Status.TheVariants.{Done, No, BadWords, Text, TooLong, Limit, Range, ReadFault, WriteFault, NoMemory}
-use Rattle.tplib_cmd.specs.Commands.{IsCommand}
-use Rattle.tplib_cmd.specs.Answers.{Value, Spells, HasFault, Answers, HasLimit, HasRange}
-use Rattle.tplib_cmd.specs.Streams.{Stream, IsReadWhole, IsReadInPart, IsReadTooFar, IsCalm, IsSame, IsWritten, IsCutShort}
+use Rattle.tplib_cmd.specs.Commands.{IsCommand, reads, meaning_of}
+use Rattle.tplib_cmd.specs.Streams.{Input, Output, IsInput, IsInputInPart, IsTooLong, IsReadFault, HasInput, IsUntouched, IsSame, IsWritten, IsCutShort}
 
 -- the input and the output of a run, before and after it
 pub record Run : Type 0 where
-  pub in_before : Stream
-  pub in_after : Stream
-  pub out_before : Stream
-  pub out_after : Stream
+  pub in_before : Input
+  pub in_after : Input
+  pub out_before : Output
+  pub out_after : Output
 
--- the bytes spell a value that the command answers with this status and this text
-abbrev pub IsAnswered : Command → List ℕ → Status → List ℕ → Type 0
-IsAnswered command bytes status text = (value : Value) × Spells command bytes value × Answers command value status text
+-- the same of a source and a sink
+abbrev pub run_of : {I O : Type 0} → (I → Input) → (O → Output) → I → I → O → O → Run
+run_of input output source source_after sink sink_after =
+    record {
+      in_before = input source;
+      in_after = input source_after;
+      out_before = output sink;
+      out_after =
+          output sink_after;
+    }
 
--- the whole answer with this status was written
-abbrev pub EndsWell : Command → Run → Status → Type 0
-EndsWell command run status =
-    (bytes : List ℕ) × (text : List ℕ) × IsReadWhole run.in_before run.in_after bytes × IsAnswered command bytes status text × IsWritten run.out_before run.out_after text
+-- the whole answer to the bytes of the input, which says yes or no, was written
+pub record EndsWell (command : Command) (run : Run) (yes : Bool) : Type 0 where
+  pub bytes : List ℕ
+  pub text : List ℕ
+  pub input : IsInput (reads command) run.in_before run.in_after bytes
+  pub answered : IsAnswered (meaning_of command) bytes yes text
+  pub written : IsWritten run.out_before run.out_after text
 
--- the computation stops for this cause, and nothing was written
-abbrev pub EndsEarly : Command → Run → (Value → Type 0) → Type 0
-EndsEarly command run Stops =
-    (bytes : List ℕ) × (value : Value) × IsReadWhole run.in_before run.in_after bytes × Spells command bytes value × Stops value × IsSame run.out_before run.out_after
+-- the same, but a write failed
+pub record EndsInWrite (command : Command) (run : Run) : Type 0 where
+  pub bytes : List ℕ
+  pub text : List ℕ
+  pub yes : Bool
+  pub input : IsInput (reads command) run.in_before run.in_after bytes
+  pub answered : IsAnswered (meaning_of command) bytes yes text
+  pub cut : IsCutShort run.out_before run.out_after text
+
+-- there is no answer to the bytes of the input, for this cause, and nothing was written
+pub record EndsEarly (command : Command) (run : Run) (refusal : Refusal) : Type 0 where
+  pub bytes : List ℕ
+  pub input : IsInput (reads command) run.in_before run.in_after bytes
+  pub refused : IsRefused (meaning_of command) bytes refusal
+  pub unwritten : IsSame run.out_before run.out_after
 
 -- How a run of the command ends: what was read, what was written, and why.
 abbrev pub Ends : Command → Run → Status → Type 0
-Ends command run Done = EndsWell command run Done
-Ends command run No = EndsWell command run No
+Ends command run Done = EndsWell command run true
+Ends command run No = EndsWell command run false
 Ends command run BadWords = ⊥
-Ends command run (Text fault) =
-    (bytes : List ℕ) × IsReadWhole run.in_before run.in_after bytes × HasFault command bytes fault × IsSame run.out_before run.out_after
-Ends command run TooLong = IsReadTooFar run.in_before run.in_after × IsSame run.out_before run.out_after
-Ends command run (Limit stop) = EndsEarly command run (λ value. HasLimit command value stop)
-Ends command run (Range stop) = EndsEarly command run (λ value. HasRange command value stop)
-Ends command run ReadFault =
-    IsReadInPart run.in_before run.in_after × Rose run.in_before.faults run.in_after.faults × IsSame run.out_before run.out_after
-Ends command run WriteFault =
-    (bytes : List ℕ) × (text : List ℕ) × (status : Status) × IsReadWhole run.in_before run.in_after bytes × IsAnswered command bytes status text × IsCutShort run.out_before run.out_after text
-Ends command run NoMemory = IsReadInPart run.in_before run.in_after × IsCalm run.in_before run.in_after × IsSame run.out_before run.out_after
+Ends command run (Text fault) = EndsEarly command run (refusals.Text fault)
+Ends command run TooLong = IsTooLong (reads command) run.in_before run.in_after × IsSame run.out_before run.out_after
+Ends command run (Limit stop) = EndsEarly command run (refusals.Limit stop)
+Ends command run (Range stop) = EndsEarly command run (refusals.Range stop)
+Ends command run ReadFault = IsReadFault (reads command) run.in_before run.in_after
+    × IsSame run.out_before run.out_after
+Ends command run WriteFault = EndsInWrite command run
+Ends command run NoMemory = IsInputInPart (reads command) run.in_before run.in_after
+    × IsSame run.out_before run.out_after
 
 -- The same of any words: `BadWords` exactly where they spell no command. Then nothing was touched.
 abbrev pub EndsWith : List (List ℕ) → Run → Status → Type 0
 EndsWith words run status =
     ((command : Command) × IsCommand words command × Ends command run status)
-    ⊎ ((status ≡ BadWords) × ((command : Command) → IsCommand words command → ⊥) × IsSame run.in_before run.in_after × IsSame run.out_before run.out_after)
+    ⊎ ((status ≡ BadWords) × ((command : Command) → IsCommand words command → ⊥)
+    × IsUntouched run.in_before run.in_after × IsSame run.out_before run.out_after)
 
--- the bytes spell a value for the command, and nothing stops it there
-pub record IsRunnable (command : Command) (bytes : List ℕ) : Type 0 where
-  pub spelled : (value : Value) × Spells command bytes value
-  pub unlimited : (value : Value) → Spells command bytes value → (stop : Stop) → HasLimit command value stop → ⊥
-  pub in_range : (value : Value) → Spells command bytes value → (stop : Stop) → HasRange command value stop → ⊥
+-- the command has these bytes from its input, they spell something for it, and nothing stops it there
+pub record IsReady (command : Command) (run : Run) (bytes : List ℕ) : Type 0 where
+  pub input : HasInput (reads command) run.in_before run.in_after bytes
+  pub runnable : IsRunnable (meaning_of command) bytes
 
--- the words spell a command, and the bytes are in order for it
-pub record IsInOrder (words : List (List ℕ)) (bytes : List ℕ) : Type 0 where
+-- the words spell a command, its input is in order for it, and no write fails
+pub record IsInOrder (words : List (List ℕ)) (run : Run) : Type 0 where
+  pub bytes : List ℕ
   pub some : (command : Command) × IsCommand words command
-  pub each : (command : Command) → IsCommand words command → IsRunnable command bytes
+  pub each : (command : Command) → IsCommand words command → IsReady command run bytes
+  pub calm_out : Rose run.out_before.faults run.out_after.faults → ⊥
 
 -- an answer, or want of memory
 abbrev pub IsAnswer : Status → Type 0
 IsAnswer Done = Unit {0}
 IsAnswer No = Unit {0}
 IsAnswer NoMemory = Unit {0}
-IsAnswer _ = ⊥
+IsAnswer BadWords = ⊥
+IsAnswer (Text fault) = ⊥
+IsAnswer TooLong = ⊥
+IsAnswer (Limit stop) = ⊥
+IsAnswer (Range stop) = ⊥
+IsAnswer ReadFault = ⊥
+IsAnswer WriteFault = ⊥

@@ -1,21 +1,18 @@
-//! The top call: [`run`] runs a command over a source and two sinks, and its contract is what the whole library promises.
+//! The top call: [`run`] runs a command over a source and two sinks, and its contract is what the whole library
+//! promises.
 //!
-//! What a command answers is said by the relations of `specs/Answers`, in the terms of the layers below; how a run ends, by
-//! `specs/Ends`, case by case on the [`Status`]. A further command is a line in `specs/Commands`, its cases in
-//! `specs/Answers`, and an arm in `answer`.
+//! What a command means is said by its layer, and `specs/Commands` names the meaning of each; how a run ends, by
+//! `specs/Ends`, case by case on the [`Status`]. A further command is a case in each definition of `specs/Commands`, an
+//! arm in `answer`, and its layer.
 #![tactic(auto)]
 
 mod answer;
 mod command;
-mod ext;
-mod reduce;
+mod input;
 mod report;
 mod status;
-mod tangent;
 mod top;
 
-pub use status::{Status, Stop};
+pub use status::Status;
 pub use top::run;
-
-#[cfg(test)]
-mod tests;
+pub use tplib_reply::{Part, Place, Stop};

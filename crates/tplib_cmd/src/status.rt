@@ -1,16 +1,9 @@
+//! How a run ends.
 ghost use Rattle.std.specs.Prelude.{◌≡◌};
 ghost use Rattle.tplib_cmd.specs.Status.{code_of};
 
+use tplib_reply::Stop;
 use trop_text::Fault;
-
-/// Where a computation stops because a cone would have too many rows, or rows of too great a size.
-#[derive(Clone, Copy, Debug, PartialEq, Eq)]
-pub enum Stop {
-    /// The first so many inequalities of a system have more extreme rows than a cone may have.
-    Rows(u32),
-    /// The polar of the coordinate, of the first so many rows, has.
-    Polar(u32, u32),
-}
 
 /// How a run ends.
 #[derive(Clone, Copy, Debug, PartialEq, Eq)]
@@ -25,9 +18,9 @@ pub enum Status {
     Text(Fault),
     /// The input has more than 4,194,304 bytes.
     TooLong,
-    /// A cone would have too many extreme rows.
+    /// A cone or a list would have too many rows, there.
     Limit(Stop),
-    /// A row would have too great a size.
+    /// A value would have numbers of too great a size, there.
     Range(Stop),
     /// A read of the input failed.
     ReadFault,

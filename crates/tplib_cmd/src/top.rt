@@ -1,20 +1,25 @@
-ghost use Rattle.std.specs.Prelude.{◌≡◌, ◌≤◌, List, ℕ, Some, length, map, string_bytes};
+//! A run: the words, the input, the answer, the output, and the line on standard error.
+ghost use Rattle.std.specs.Prelude.{◌≡◌, List, ℕ, map, string_bytes};
 ghost use Rattle.trop_io.specs.Faults.{Rose};
-ghost use Rattle.tplib_cmd.specs.Streams.{IsReported, longest_input};
-ghost use Rattle.tplib_cmd.specs.Ends.{EndsWith, IsInOrder, IsAnswer};
+ghost use Rattle.trop_words.specs.declared.command.Command.{Command};
+ghost use Rattle.tplib_cmd.specs.Commands.{IsBuilt};
+ghost use Rattle.tplib_cmd.specs.Streams.{IsReported, input_of, output_of};
+ghost use Rattle.tplib_cmd.specs.Ends.{Ends, EndsWith, IsInOrder, IsAnswer, run_of};
 ghost use Rattle.tplib_cmd.specs.Status.{line_of};
 
 use crate::Status;
-use crate::answer::{Refusal, answer};
+use crate::answer::answer;
 use crate::command::read_command;
+use crate::input::take_input;
 use crate::report::report;
 use std::alloc::Global;
-use trop_io::{ReadAllErr, Sink, Source, read_all, write_all};
+use tplib_reply::Refusal;
+use trop_io::{ReadAllErr, Sink, Source, write_all};
+use trop_words::Command;
 
-const LONGEST_INPUT: usize = 4_194_304;
-
-/// Runs the command that the words spell: reads the input to its end, writes the answer to `out` once it stands whole, and
-/// writes one line to `err` where there is none. A failing `err` changes nothing else.
+/// Runs the command that the words spell: reads the input to its end, writes the answer to `out` once it stands whole,
+/// and writes one line to `err` where there is none. A failing `err` changes nothing else. A command that reads nothing
+/// does not touch the input.
 ///
 /// The status names the cause; see [`Status`].
 pub fn run<I: Source, O: Sink, E: Sink>(
@@ -24,40 +29,52 @@ pub fn run<I: Source, O: Sink, E: Sink>(
     out: &mut O,
     err: &mut E,
 ) -> Status
-    ensures ends { EndsWith (map string_bytes words.now) record {
-      in_before = record { bytes = I.left input.old; faults = I.faults input.old };
-      in_after = record { bytes = I.left input.new; faults = I.faults input.new };
-      out_before = record { bytes = O.bytes out.old; faults = O.faults out.old };
-      out_after = record { bytes = O.bytes out.new; faults = O.faults out.new };
-    } result }
+    ensures ends { EndsWith (map string_bytes words.now)
+        (run_of (input_of I.left I.faults I.calls) (output_of O.bytes O.faults) input.old input.new out.old out.new)
+        result }
     // Where everything is in order there is an answer, or want of memory.
-    ensures complete { (bytes : List ℕ) → IsInOrder (map string_bytes words.now) bytes → I.left input.old ≡ Some bytes → length bytes ≤ longest_input
-        → (Rose (I.faults input.old) (I.faults input.new) → ⊥) → (Rose (O.faults out.old) (O.faults out.new) → ⊥) → IsAnswer result }
-    ensures reported { IsReported
-        record { bytes = E.bytes err.old; faults = E.faults err.old } record { bytes = E.bytes err.new; faults = E.faults err.new } (line_of result) }
+    ensures complete { IsInOrder (map string_bytes words.now)
+        (run_of (input_of I.left I.faults I.calls) (output_of O.bytes O.faults) input.old input.new out.old out.new) →
+        IsAnswer result }
+    ensures reported { IsReported (output_of E.bytes E.faults err.old) (output_of E.bytes E.faults err.new)
+        (line_of result) }
 {
-    let status = run_command(alloc, words, input, out);
+    let status = run_words(alloc, words, input, out);
     report(status, err);
     status
 }
 
-fn run_command<I: Source, O: Sink>(
+// The same without the line.
+fn run_words<I: Source, O: Sink>(
     alloc: Global,
     words: &[String],
     input: &mut I,
     out: &mut O,
 ) -> Status
-    ensures ends { EndsWith (map string_bytes words.now) record {
-      in_before = record { bytes = I.left input.old; faults = I.faults input.old };
-      in_after = record { bytes = I.left input.new; faults = I.faults input.new };
-      out_before = record { bytes = O.bytes out.old; faults = O.faults out.old };
-      out_after = record { bytes = O.bytes out.new; faults = O.faults out.new };
-    } result }
+    ensures ends { EndsWith (map string_bytes words.now)
+        (run_of (input_of I.left I.faults I.calls) (output_of O.bytes O.faults) input.old input.new out.old out.new)
+        result }
+    ensures complete { IsInOrder (map string_bytes words.now)
+        (run_of (input_of I.left I.faults I.calls) (output_of O.bytes O.faults) input.old input.new out.old out.new) →
+        IsAnswer result }
 {
-    let Some(command) = read_command(words) else {
-        return Status::BadWords;
-    };
-    let bytes = match read_all(alloc, input, LONGEST_INPUT) {
+    match read_command(words) {
+        Some(command) => run_command(alloc, command, input, out),
+        None => Status::BadWords,
+    }
+}
+
+fn run_command<I: Source, O: Sink>(
+    alloc: Global,
+    command: Command<'_>,
+    input: &mut I,
+    out: &mut O,
+) -> Status
+    requires built { IsBuilt command }
+    ensures ends { Ends command.entry (run_of (input_of I.left I.faults I.calls)
+        (output_of O.bytes O.faults) input.old input.new out.old out.new) result }
+{
+    let bytes = match take_input(alloc, command, input) {
         Ok(bytes) => bytes,
         Err(ReadAllErr::ReadFault) => return Status::ReadFault,
         Err(ReadAllErr::TooLong) => return Status::TooLong,

@@ -5,3 +5,4 @@ pub mod Files
 pub mod Fitting
 pub mod Sizes
 pub mod Texts
+pub mod Runs

@@ -21,13 +21,22 @@ use Rattle.tplib_laws.proofs.Rows.{IsPrintable}
 
 module _ {V : Type 0} {R : Semiring V} (laws : SemiringLaws R) (n : ℕ) where
   -- of solutions
-  solution_small : (system : List (Inequality V)) (x : List V) → n ≤ 64 → system_size R system ≤ 2 ^ 49 → IsExtreme R (Solves R n system) x → IsNormal R x → row_size R x < 2 ^ 63
+  solution_small : (system : List (Inequality V)) (x : List V) → n ≤ 64 → system_size R system ≤ 2 ^ 49 →
+      IsExtreme R (Solves R n system) x → IsNormal R x → row_size R x < 2 ^ 63
   solution_small system x few size extreme normal =
-      let most : 4 * system_size R system * (n - 1) ≤ 4 * system_size R system * 63 = mul-le-mul_left (4 * system_size R system) (omega arith) in
-      let as_fitted = IsExtreme-same (Solves R n system) (Solves R n (map (fitted_sides R n) system)) (Solves-fitted laws n system) x extreme in
-      omega (arith, extreme_row_small laws n (system_size R system) (map (fitted_sides R n) system) x (IsIn-fitted laws n system) (system_size-fitted laws n system) as_fitted normal, most)
+      let most : 4 * system_size R system * (n - 1) ≤ 4 * system_size R system * 63 =
+      mul-le-mul_left (4 * system_size R system) (omega arith) in
+      let as_fitted = IsExtreme-same (Solves R n system) (Solves R n (map (fitted_sides R n) system))
+      (Solves-fitted laws n system) x extreme in
+      omega (
+        arith,
+        extreme_row_small laws n (system_size R system) (map (fitted_sides R n) system) x
+            (IsIn-fitted laws n system) (system_size-fitted laws n system) as_fitted normal,
+        most,
+      )
 
-  pub solutions_printable : (system : List (Inequality V)) (answer : List (List V)) → n ≤ 64 → system_size R system ≤ 2 ^ 49 → IsCanonical R (Solves R n system) answer → All (IsPrintable R n) answer
+  pub solutions_printable : (system : List (Inequality V)) (answer : List (List V)) → n ≤ 64 →
+      system_size R system ≤ 2 ^ 49 → IsCanonical R (Solves R n system) answer → All (IsPrintable R n) answer
   solutions_printable system answer few size h k d l = record {
     wide = (h.extreme k d l).member.wide;
     normal = h.normal k d l;
@@ -37,15 +46,29 @@ module _ {V : Type 0} {R : Semiring V} (laws : SemiringLaws R) (n : ℕ) where
   -- of combinations: each is a multiple of a row
   multiple_small : (g x : List V) (c : V) → IsNormal R x → x ≡ scaled R c g → row_size R x ≤ row_size R g + row_size R g
   multiple_small g x c normal e =
-      let at : R.times c (entry R g normal.first) ≡ R.one = sym (ap (λ v. entry R v normal.first) e ∙ entry-scaled laws c g normal.first) ∙ normal.is_one in
-      size_normalised laws g x (record { factor = c; finite = left_factor_finite laws c (entry R g normal.first) R.one at laws.one_finite; multiple = e; normal = normal })
+      let at : R.times c (entry R g normal.first) ≡ R.one =
+      sym (ap (λ v. entry R v normal.first) e ∙ entry-scaled laws c g normal.first) ∙ normal.is_one in
+      size_normalised laws g x (record {
+        factor = c;
+        finite =
+            left_factor_finite laws c (entry R g normal.first) R.one at laws.one_finite;
+        multiple = e;
+        normal = normal;
+      })
 
-  combination_small : (rows : List (List V)) (x : List V) → AreWide n rows → rows_size R rows ≤ 2 ^ 59 → IsExtreme R (IsCombination R n rows) x → IsNormal R x → row_size R x < 2 ^ 63
+  combination_small : (rows : List (List V)) (x : List V) → AreWide n rows → rows_size R rows ≤ 2 ^ 59 →
+      IsExtreme R (IsCombination R n rows) x → IsNormal R x → row_size R x < 2 ^ 63
   combination_small rows x wide size extreme normal =
       let found = multiple_from_extreme laws n rows x wide extreme in
-      omega (arith, multiple_small found.1 x found.4.0 normal found.4.1, ap (row_size R) found.3, rows_size-at R rows found.0 found.1 found.2)
+      omega (
+        arith,
+        multiple_small found.1 x found.4.0 normal found.4.1,
+        ap (row_size R) found.3,
+        rows_size-at R rows found.0 found.1 found.2,
+      )
 
-  pub combinations_printable : (rows answer : List (List V)) → AreWide n rows → rows_size R rows ≤ 2 ^ 59 → IsCanonical R (IsCombination R n rows) answer → All (IsPrintable R n) answer
+  pub combinations_printable : (rows answer : List (List V)) → AreWide n rows → rows_size R rows ≤ 2 ^ 59 →
+      IsCanonical R (IsCombination R n rows) answer → All (IsPrintable R n) answer
   combinations_printable rows answer wide size h k d l = record {
     wide = IsCombination-length laws n rows (get_or answer k d) wide (h.extreme k d l).member;
     normal = h.normal k d l;

@@ -21,7 +21,8 @@ pub both_equal : (c d : ℕ) (s t : List ℕ) → c ≡ d → s ≡ t → c ∷ 
 both_equal c d s t p q = λ i. p i ∷ q i
 
 -- what stands before and behind the first byte b of equal texts
-pub split : (m b : ℕ) (s t x y : List ℕ) → b < m → AreFrom m s → AreFrom m t → s ++ b ∷ x ≡ t ++ b ∷ y → (s ≡ t) × (x ≡ y)
+pub split : (m b : ℕ) (s t x y : List ℕ) → b < m → AreFrom m s → AreFrom m t → s ++ b ∷ x ≡ t ++ b ∷ y →
+    (s ≡ t) × (x ≡ y)
 split m b [] [] x y l h k e = (refl, ap (drop 1) e)
 split m b [] (d ∷ t) x y l h k e = let p : b ≡ d = cc in absurd (omega (arith, k.0))
 split m b (c ∷ s) [] x y l h k e = let p : c ≡ b = cc in absurd (omega (arith, h.0))

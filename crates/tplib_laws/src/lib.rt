@@ -1,8 +1,8 @@
-//! Laws of the answers of the commands that no code needs, each the contract of a function that does nothing.
+//! Laws of runs that no code needs, each the contract of a function that does nothing.
 //!
 //! A command prints a canonical text, so that files can be compared by the bytes of their answers.
 #![tactic(auto)]
 
-mod equal_texts;
+mod equal_bytes;
 
-pub use equal_texts::{equal_texts_are_equal_cones, equal_texts_are_equal_solutions};
+pub use equal_bytes::{equal_bytes_are_equal_cones, equal_bytes_are_equal_solutions};

@@ -1,3 +1,4 @@
 pub mod WrittenPieces
 pub mod Refused
+pub mod Unstopped
 pub mod Steps

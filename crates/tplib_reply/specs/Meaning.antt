@@ -1,7 +1,8 @@
 -- What a command means: what its input says, which faults it may have, what the answer is, and where there is none.
-use Rattle.std.specs.Prelude.{◌⊎◌, ℕ, Bool, List}
+use Rattle.std.specs.Prelude.{◌⊎◌, ℕ, Bool, true, false, List}
 use Rattle.trop_text.specs.declared.fault.Fault.{Fault}
 use Rattle.tplib_reply.specs.declared.stop.Stop.{Stop}
+use Rattle.tplib_reply.specs.declared.stop.Stop.TheVariants.{Rows, Polar}
 use Rattle.tplib_reply.specs.declared.refusal.Reply.{Reply}
 use Rattle.tplib_reply.specs.declared.refusal.Refusal.{Refusal}
 use Rattle.tplib_reply.specs.declared.refusal.Refusal.TheVariants.{Text, Limit, Range, NoMemory}
@@ -46,6 +47,12 @@ module _ {A : Type 0} (M : Meaning A) where
   IsRefused bytes (Range stop) = IsStopped bytes OutOfRange stop
   IsRefused bytes NoMemory = Unit {0}
 
+  -- the bytes spell something, and whatever they spell, nothing stops the computation
+  pub record IsRunnable (bytes : List ℕ) : Type 0 where
+    pub said : A
+    pub spelled : M.spells bytes said
+    pub unstopped : (other : A) → M.spells bytes other → (cause : Cause) (stop : Stop) → M.stops other cause stop → ⊥
+
 -- The same meaning, with faults of what the bytes say. They are told behind all others, and what has one counts as
 -- nothing that is spelled.
 abbrev pub with_late : {A : Type 0} → Meaning A → (A → Fault → Type 0) → Meaning A
@@ -59,3 +66,19 @@ with_late {A} M late = record {
 -- no stop
 abbrev pub never : {A : Type 0} → A → Cause → Stop → Type 0
 never said cause stop = ⊥
+
+-- a stop at the limit alone, at the first k of the inequalities that are taken one after another
+abbrev pub at_rows : {A : Type 0} → (A → ℕ → Type 0) → A → Cause → Stop → Type 0
+at_rows rows said OverLimit (Rows k) = rows said k
+at_rows rows said _ stop = ⊥
+
+-- the same, or a stop at the polar of coordinate i, of the first k rows of a cone
+abbrev pub at_rows_or_polars : {A : Type 0} → (A → ℕ → Type 0) → (A → ℕ → ℕ → Type 0) → A → Cause → Stop → Type 0
+at_rows_or_polars rows polars said OverLimit (Rows k) = rows said k
+at_rows_or_polars rows polars said OverLimit (Polar i k) = polars said i k
+at_rows_or_polars rows polars said _ stop = ⊥
+
+-- an answer that says yes, and never no
+abbrev pub always_yes : {A : Type 0} → (A → List ℕ → Type 0) → A → Bool → List ℕ → Type 0
+always_yes text_of said true text = text_of said text
+always_yes text_of said false text = ⊥

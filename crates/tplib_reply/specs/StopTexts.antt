@@ -41,5 +41,6 @@ abbrev pub stop_text : Stop → List ℕ
 stop_text (Rows k) = steps_text (step label.Inequalities k ∷ [])
 stop_text (Polar i k) = steps_text (step label.Polar i ∷ step label.Rows k ∷ [])
 stop_text (Lean k j) = steps_text (step label.Lean k ∷ step label.Inequalities j ∷ [])
-stop_text (At place) = steps_text (step label.Pass place.pass ∷ step label.Point place.point ∷ []) ++ part_text place.part
+stop_text (At place) = steps_text (step label.Pass place.pass ∷ step label.Point place.point ∷ [])
+    ++ part_text place.part
 stop_text (PointPolar p i k) = steps_text (step label.Point p ∷ step label.Polar i ∷ step label.Rows k ∷ [])

@@ -1,4 +1,4 @@
 pub mod Places
 pub mod Members
 pub mod EdgeLines
-pub mod Pictures
+pub mod SolutionTexts

@@ -11,7 +11,8 @@ module _ {X : Type 0} (P : X → Type 0) (xs : List X) where
 
   pub All-take_more : (k : ℕ) (x : X) → All P (take k xs) → slice_get xs k ≡ Some x → P x → All P (take (k + 1) xs)
   All-take_more k x h e p =
-      subst (All P) (sym (take_more xs k x (slice_get_within xs k x e) ∙ ap (λ y. take k xs ++ y ∷ []) (get_or_from_slice_get xs k x x e)))
+      subst (All P) (sym (take_more xs k x (slice_get_within xs k x e) ∙ ap (λ y. take k xs ++ y ∷ [])
+      (get_or_from_slice_get xs k x x e)))
       (All-push P (take k xs) x h p)
 
   pub All-take_all : (k : ℕ) → length xs ≤ k → All P (take k xs) → All P xs

@@ -1,10 +1,13 @@
-//! What the command `tangent` writes: the tangent directed hypergraph of a system at a solution, the types of the solution and
+//! The command `tangent`: the tangent directed hypergraph of a system at a solution, the types of the solution and
 //! whether it is extreme; or the first inequality that fails.
+//!
+//! What the command means is said in `specs/Tangent`.
 #![tactic(auto)]
 
 mod coordinates;
 mod numbers;
-mod picture;
-mod reply;
+mod row_reply;
+mod solution_text;
+mod tangent;
 
-pub use reply::{NoMemory, Reply, reply_to};
+pub use tangent::tangent_reply;

@@ -1,3 +1,4 @@
+//! Tables of texts and of runs, a file a kind of input or of fault.
 mod at_answers;
 mod at_faults;
 mod bad_words;
@@ -9,5 +10,7 @@ mod gens_faults;
 mod groups;
 mod ineqs_answers;
 mod ineqs_faults;
+mod laws;
 mod pairs;
 mod plain;
+mod runs;

@@ -1,3 +1,4 @@
+//! Answers of `tangent`.
 use super::ending::ends_so;
 use std::test::Fail;
 

@@ -1,3 +1,4 @@
+//! Files of a vector with inequalities, at fault.
 use super::ending::ends_so;
 use std::test::Fail;
 

@@ -1,3 +1,4 @@
+//! Words that are no command.
 use super::ending::ends_so;
 use std::test::Fail;
 use tplib_cmd::run;

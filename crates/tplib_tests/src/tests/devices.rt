@@ -1,3 +1,4 @@
+//! Sources and sinks that fail.
 use super::ending::split;
 use std::alloc::Global;
 use std::test::Fail;

@@ -1,9 +1,12 @@
+//! Runs, and what they end with.
 use std::alloc::Global;
+use std::str::from_utf8;
 use std::test::Fail;
 use tplib_cmd::run;
 use trop_io::{MemSink, MemSource};
 
-// Whether a run of the words on the input ends with this code and writes exactly this.
+// That a run of the words on the input ends with this code and writes exactly this; a failure with what was wanted and
+// what came, where it does not.
 pub(super) fn ends_so(
     alloc: Global,
     words: &str,
@@ -18,7 +21,35 @@ pub(super) fn ends_so(
     let mut answer = MemSink::new(alloc, 1_048_576, 4096, Vec::new(alloc))?;
     let mut line = MemSink::new(alloc, 256, 64, Vec::new(alloc))?;
     let status = run(alloc, &words, &mut input, &mut answer, &mut line);
-    Ok(status.code() == code && answer.bytes() == out && line.bytes() == err)
+    same_ending(
+        alloc,
+        (code, out, err),
+        (status.code(), answer.bytes(), line.bytes()),
+    )
+}
+
+// Whether the code and what was written to both streams is what was wanted; a failure with both, where it is not.
+pub(super) fn same_ending(
+    alloc: Global,
+    wanted: (u8, &[u8], &[u8]),
+    got: (u8, &[u8], &[u8]),
+) -> Result<bool, Fail> {
+    if wanted.0 == got.0 && wanted.1 == got.1 && wanted.2 == got.2 {
+        return Ok(true);
+    }
+    Err(Fail::new(format!(in alloc;
+        "wanted {}: {}{}, got {}: {}{}",
+        wanted.0,
+        shown(wanted.1),
+        shown(wanted.2),
+        got.0,
+        shown(got.1),
+        shown(got.2)
+    )?))
+}
+
+fn shown(bytes: &[u8]) -> &str {
+    from_utf8(bytes).unwrap_or("bytes that are no text")
 }
 
 pub(super) fn split(alloc: Global, words: &str) -> Result<Vec<String>, Fail> {

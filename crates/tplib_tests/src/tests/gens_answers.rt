@@ -1,3 +1,4 @@
+//! Answers of `reduce`.
 use super::ending::ends_so;
 use std::test::Fail;
 

@@ -1,3 +1,4 @@
+//! Files of generators, at fault.
 use super::ending::ends_so;
 use std::test::Fail;
 

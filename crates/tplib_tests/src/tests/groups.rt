@@ -1,8 +1,10 @@
+//! Systems of groups of variables, with as many extreme rows as a cone may have and with more.
 use super::ending::ends_so;
 use std::alloc::Global;
 use std::test::Fail;
 
-/// Variables in groups, each group at most the next one, so that an extreme row has one variable of each group from some
+/// Variables in groups, each group at most the next one, so that an extreme row has one variable of each group from
+/// some
 /// group on.
 struct Groups {
     vars: &'static str,

@@ -1,3 +1,4 @@
+//! Answers of `ext`.
 use super::ending::ends_so;
 use std::test::Fail;
 

@@ -1,3 +1,4 @@
+//! Files of inequalities, at fault.
 use super::ending::ends_so;
 use std::test::Fail;
 

@@ -1,3 +1,4 @@
+//! Files of two lists.
 ghost use Rattle.std.specs.Prelude.{◌≤◌, ◌^◌, length};
 
 use std::alloc::Global;

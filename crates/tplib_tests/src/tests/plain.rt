@@ -1,4 +1,5 @@
-// The plain way to the extreme rows, with arithmetic of its own: from the unit rows on, for each inequality all mixed rows
+// The plain way to the extreme rows, with arithmetic of its own: from the unit rows on, for each inequality all mixed
+// rows
 // of a row that it keeps and one that it drops, and at the end `reduce`. It gives what `ext` gives.
 
 use super::ending::answer_of;

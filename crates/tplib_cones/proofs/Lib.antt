@@ -1,0 +1,5 @@
+pub mod Lifted
+pub mod Reduced
+pub mod Independent
+pub mod ConeFiles
+pub mod LineByLine

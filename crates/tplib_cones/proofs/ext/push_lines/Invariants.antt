@@ -1,0 +1,15 @@
+use Rattle.std.proofs.Common.{◌≡◌, length}
+use Rattle.tplib_cones.proofs.LineByLine.{IsWithin}
+use Rattle.tplib_cones.proofs.ext.push_lines.Given as goal
+
+abbrev pub invariant-lines : goal.invariant-lines
+invariant-lines g l = record {
+  bytes : l.lines.bytes ≡ l.initial.lines.bytes;
+  names : l.lines.names ≡ l.initial.lines.names;
+  system : l.dd.system ≡ l.lines.given;
+  width : l.dd.n ≡ l.initial.dd.n;
+  within : IsWithin g.S.Scalar.ring l.initial.dd.n l.dd.system;
+}
+
+abbrev pub decreases-lines : goal.decreases-lines
+decreases-lines g l = length l.lines.left

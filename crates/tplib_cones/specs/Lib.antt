@@ -1,0 +1,3 @@
+pub mod ConeFiles
+pub mod Reduce
+pub mod Ext

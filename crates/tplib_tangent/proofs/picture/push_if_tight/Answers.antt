@@ -1,6 +1,0 @@
-use Rattle.std.proofs.Common.{[], sym, refl, inr, rules}
-use Rattle.std.proofs.lemmas.List.{append-nil}
-use Rattle.tplib_tangent.proofs.picture.push_if_tight.Goals as goal
-
-pub returns-in-None : goal.returns-in-None
-returns-in-None g c = ([], sym (append-nil c.args.text.now.items), inr (c.in-None.ensures.edge, refl))
