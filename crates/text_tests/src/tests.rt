@@ -1,0 +1,5 @@
+//! One file a layer, lowest first.
+mod elements;
+mod files;
+mod parts;
+mod tokens;
