@@ -1,0 +1,16 @@
+use Rattle.std.proofs.Common.{arith, ap}
+use Rattle.trop_theory.specs.Vectors.{row_size}
+use Rattle.trop_poly.proofs.Kept.{rows_size-taken}
+use Rattle.trop_poly.proofs.largest.largest_of.Goals as goal
+
+pub loop-row-preserved : goal.loop-row-preserved
+loop-row-preserved g c =
+    let R = g.S.Scalar.ring in
+    omega (
+      arith,
+      c.greater-largest.ensures,
+      c.largest_entry.ensures,
+      ap (row_size R) c.as_slice.ensures.entries,
+      c.loop-row.invariant,
+      rows_size-taken R c.args.rows.now c.loop-row.row-index c.row-item.result (omega arith) c.row-item.is,
+    )
