@@ -1,0 +1,4 @@
+pub mod Loops
+pub mod GuardPoints
+pub mod TermSums
+pub mod Proven

@@ -1,0 +1,27 @@
+use Rattle.std.proofs.Common.{arith, ap, sym, ◌∙◌, true≢false}
+use Rattle.trop_theory.specs.Vectors.{row_size}
+use Rattle.trop_row.proofs.Steps.{rows_size-at}
+use Rattle.cone_claims.specs.Points.{HasRight}
+use Rattle.cone_claims.proofs.Loops.{each_more, none_found}
+use Rattle.cone_claims.proofs.points.some_right.Goals as goal
+
+pub has_right-requires-clause-sizes : goal.has_right-requires-clause-sizes
+has_right-requires-clause-sizes g c =
+    let R = g.S.Scalar.ring in
+    omega (
+      arith,
+      ap (row_size R) c.row-item.is,
+      rows_size-at R c.args.rows.now c.loop-row.row-index c.row-item.result
+          (omega arith),
+      c.requires.sizes,
+    )
+
+pub loop-row-preserved : goal.loop-row-preserved
+loop-row-preserved g c =
+    each_more (λ x. HasRight g.S.Scalar.ring c.args.ineq.now x → ⊥) c.args.rows.now c.loop-row.row-index
+    c.row-item.result c.row-item.is (omega arith) c.loop-row.invariant
+    (λ p. true≢false (sym (c.has_right.ensures.1 p) ∙ c.if-has_right.false))
+
+pub returns : goal.returns
+returns g c = none_found (HasRight g.S.Scalar.ring c.args.ineq.now) c.args.rows.now c.loop-row.row-index
+    (omega arith) c.loop-row.invariant
