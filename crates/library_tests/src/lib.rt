@@ -1,0 +1,5 @@
+//! What a user of the library writes: the calls that README shows.
+#![tactic(auto)]
+
+#[cfg(test)]
+mod tests;
