@@ -9,17 +9,27 @@ use Rattle.trop_dd.specs.Carried.{AreCarried}
 use Rattle.trop_dd.specs.Sound.{IsSound}
 
 -- one more element is copied
-pub copied_more : {X : Type 0} (xs old new : List X) (i : ℕ) (x y : X) → i < length xs → x ≡ get_or xs i x → y ≡ x → old ≡ take i xs → new ≡ old ++ y ∷ [] → new ≡ take (i + 1) xs
-copied_more xs old new i x y l read same h e = e ∙ ap (λ o. o ++ y ∷ []) h ∙ ap (λ z. take i xs ++ z ∷ []) (same ∙ read) ∙ sym (take_more xs i x l)
+pub copied_more : {X : Type 0} (xs old new : List X) (i : ℕ) (x y : X) → i < length xs → x ≡ get_or xs i x → y ≡ x →
+    old ≡ take i xs → new ≡ old ++ y ∷ [] → new ≡ take (i + 1) xs
+copied_more xs old new i x y l read same h e = e ∙ ap (λ o. o ++ y ∷ []) h ∙ ap (λ z. take i xs ++ z ∷ []) (same ∙ read)
+    ∙ sym (take_more xs i x l)
 
-module _ {V : Type 0} (n m : ℕ) (system others : List (Inequality V)) (rows copies : List (List V)) (en : m ≡ n) (es : others ≡ system) (er : copies ≡ rows) where
-  pub same_description : (d : Description V) → record { n = n; system = system; rows = rows } ≡ d → record { n = m; system = others; rows = copies } ≡ d
+module _ {V : Type 0} (n m : ℕ) (system others : List (Inequality V)) (rows copies : List (List V)) (en : m ≡ n)
+    (es : others ≡ system) (er : copies ≡ rows) where
+  pub same_description : (d : Description V) → record { n = n; system = system; rows = rows } ≡ d →
+      record { n = m; system = others; rows = copies } ≡ d
   same_description d e =
-      ap (λ k. record { n = k; system = others; rows = copies }) en ∙ ap (λ s. record { n = n; system = s; rows = copies }) es ∙ ap (λ r. record { n = n; system = system; rows = r }) er ∙ e
+      ap (λ k. record { n = k; system = others; rows = copies }) en
+      ∙ ap (λ s. record { n = n; system = s; rows = copies }) es
+      ∙ ap (λ r. record { n = n; system = system; rows = r }) er ∙ e
 
   pub copied_sound : (R : Semiring V) → IsSound R n system rows → IsSound R m others copies
-  copied_sound R h = subst (λ k. IsSound R k others copies) (sym en) (subst (λ s. IsSound R n s copies) (sym es) (subst (IsSound R n system) (sym er) h))
+  copied_sound R h = subst (λ k. IsSound R k others copies) (sym en)
+      (subst (λ s. IsSound R n s copies) (sym es) (subst (IsSound R n system) (sym er) h))
 
-  pub copied_carried : (R : Semiring V) (sides more : List (Side V)) → more ≡ sides → AreCarried R n system rows sides → AreCarried R m others copies more
+  pub copied_carried : (R : Semiring V) (sides more : List (Side V)) → more ≡ sides → AreCarried R n system rows sides →
+      AreCarried R m others copies more
   copied_carried R sides more e h =
-      subst (λ k. AreCarried R k others copies more) (sym en) (subst (λ s. AreCarried R n s copies more) (sym es) (subst (λ r. AreCarried R n system r more) (sym er) (subst (AreCarried R n system rows) (sym e) h)))
+      subst (λ k. AreCarried R k others copies more) (sym en)
+      (subst (λ s. AreCarried R n s copies more) (sym es)
+      (subst (λ r. AreCarried R n system r more) (sym er) (subst (AreCarried R n system rows) (sym e) h)))

@@ -1,7 +1,9 @@
 pub mod Sizes
 pub mod Places
-pub mod Placing
 pub mod Parting
+pub mod Searching
+pub mod Numbers
+pub mod Settled
 pub mod Splits
 pub mod Mixes
 pub mod Narrowings

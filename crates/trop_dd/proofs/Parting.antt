@@ -18,14 +18,17 @@ use Rattle.trop_dd.specs.Parts.{IsKept, IsDropped}
 use Rattle.trop_dd.proofs.Places.{side_at, size_at, some_type, slot_sizes}
 
 -- what is known of a row with what is carried beside it
-pub record Facts {V : Type 0} (R : Semiring V) (n : ℕ) (system : List (Inequality V)) (p : Inequality V) (side : Side V) : Type 0 where
+pub record Facts {V : Type 0} (R : Semiring V) (n : ℕ) (system : List (Inequality V)) (p : Inequality V)
+    (side : Side V) : Type 0 where
   pub carried : IsSide R n system side
   pub inside : IsIn (length side.row) p
   pub size : row_size R side.row ≤ 2 ^ 57
   pub some : (t : ℕ) × Has side.words.types t
   pub slots : All (λ slot. R.size R.one + R.size slot.sum ≤ 2 ^ 62) side.slots
 
-module _ {V : Type 0} {R : Semiring V} (laws : SemiringLaws R) (n : ℕ) (system : List (Inequality V)) (p : Inequality V) (sides : List (Side V)) (next : IsNext R n system p sides) (k : ℕ) (l : k < length sides) (side : Side V) (read : side ≡ get_or sides k side) where
+module _ {V : Type 0} {R : Semiring V} (laws : SemiringLaws R) (n : ℕ) (system : List (Inequality V)) (p : Inequality V)
+    (sides : List (Side V)) (next : IsNext R n system p sides) (k : ℕ) (l : k < length sides) (side : Side V)
+    (read : side ≡ get_or sides k side) where
   pub facts : Facts R n system p side
   facts = subst (Facts R n system p) (sym read) (record {
     carried = side_at laws n system p sides next k side l;
@@ -35,7 +38,12 @@ module _ {V : Type 0} {R : Semiring V} (laws : SemiringLaws R) (n : ℕ) (system
     };
     size = size_at laws n system p sides next k side l;
     some = some_type laws n system p sides next k side l;
-    slots = λ i d lt. omega (arith, laws.size_one, slot_sizes laws n system (get_or sides k side) (side_at laws n system p sides next k side l) (size_at laws n system p sides next k side l) next.size i d lt);
+    slots = λ i d lt. omega (
+      arith,
+      laws.size_one,
+      slot_sizes laws n system (get_or sides k side) (side_at laws n system p sides next k side l)
+          (size_at laws n system p sides next k side l) next.size i d lt,
+    );
   })
 
   here : (d : Side V) → side ≡ get_or sides k d
@@ -44,7 +52,8 @@ module _ {V : Type 0} {R : Semiring V} (laws : SemiringLaws R) (n : ℕ) (system
   pub true_here : HoldsOf R p.left p.right side.row → IsTrueAt R p side.row
   true_here h = (truth laws p.left p.right side.row facts.inside.left facts.inside.right).0 h
 
-  pub kept_here : (slot : Slot V) → HoldsOf R p.left p.right side.row → IsSlot R side.row p slot → slot.sum ≢ R.zero → IsKept R p sides (record { place = k; slot = slot })
+  pub kept_here : (slot : Slot V) → HoldsOf R p.left p.right side.row → IsSlot R side.row p slot → slot.sum ≢ R.zero →
+      IsKept R p sides (record { place = k; slot = slot })
   kept_here slot h s f = record {
     within = l;
     holds = λ d. subst (λ a. HoldsOf R p.left p.right a.row) (here d) h;
@@ -52,7 +61,10 @@ module _ {V : Type 0} {R : Semiring V} (laws : SemiringLaws R) (n : ℕ) (system
     finite = f;
   }
 
-  pub dropped_here : (part : Dropped V) → part.place ≡ k → (HoldsOf R p.left p.right side.row → ⊥) → part.sum ≡ dot R p.left side.row → ((i : ℕ) → Has part.reached i ↔ ((dot R p.left side.row ≢ R.zero) × Attains R p.left side.row i)) → part.words ≡ side.words → IsDropped R p sides part
+  pub dropped_here : (part : Dropped V) → part.place ≡ k → (HoldsOf R p.left p.right side.row → ⊥) →
+      part.sum ≡ dot R p.left side.row → ((i : ℕ) →
+      Has part.reached i ↔ ((dot R p.left side.row ≢ R.zero) × Attains R p.left side.row i)) → part.words ≡ side.words →
+      IsDropped R p sides part
   dropped_here part at fails sum reached words = record {
     within = omega (arith, at, l);
     fails = λ d h. fails (subst (λ a. HoldsOf R p.left p.right a.row) (sym (there d)) h);

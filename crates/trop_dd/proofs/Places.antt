@@ -17,7 +17,8 @@ use Rattle.trop_dd.specs.Carried.{rows_of, IsNext}
 use Rattle.trop_dd.proofs.Sizes.{size-dot, described_fit}
 
 module _ {V : Type 0} (sides : List (Side V)) where
-  pub row_read : (k : ℕ) (d : Side V) (e : List V) → k < length sides → get_or (rows_of sides) k e ≡ (get_or sides k d).row
+  pub row_read : (k : ℕ) (d : Side V) (e : List V) → k < length sides →
+      get_or (rows_of sides) k e ≡ (get_or sides k d).row
   row_read k d e l = get_or-map (λ side. side.row) sides k d e l
 
   pub length-rows : length (rows_of sides) ≡ length sides
@@ -28,16 +29,25 @@ module _ {V : Type 0} (sides : List (Side V)) where
 
 module _ {V : Type 0} {R : Semiring V} (laws : SemiringLaws R) where
   -- a sum at a row of moderate size is of moderate size
-  pub slot_sizes : (n : ℕ) (system : List (Inequality V)) (side : Side V) → IsSide R n system side → row_size R side.row ≤ 2 ^ 57 → system_size R system ≤ 2 ^ 49 → All (λ slot. R.size slot.sum ≤ 2 ^ 58) side.slots
+  pub slot_sizes : (n : ℕ) (system : List (Inequality V)) (side : Side V) → IsSide R n system side →
+      row_size R side.row ≤ 2 ^ 57 → system_size R system ≤ 2 ^ 49 → All (λ slot. R.size slot.sum ≤ 2 ^ 58) side.slots
   slot_sizes n system side is size all k d l =
       let many = length-slots R side.row system side.slots is.slots in
       let blank : Inequality V = record { left = []; right = [] } in
       let within : k < length system = omega (arith, l, many) in
       let s = slot_of R side.row system side.slots k blank is.slots within in
       let at = get_or_default side.slots k (record { sum = R.zero; tail = 0; head = 0 }) d l in
-      omega (arith, ap (λ t. R.size t.sum) (sym at), ap R.size s.sum, size-dot laws (get_or system k blank).right side.row, All-system_size R system (2 ^ 49) all k blank within, size)
+      omega (
+        arith,
+        ap (λ t. R.size t.sum) (sym at),
+        ap R.size s.sum,
+        size-dot laws (get_or system k blank).right side.row,
+        All-system_size R system (2 ^ 49) all k blank within,
+        size,
+      )
 
-module _ {V : Type 0} {R : Semiring V} (laws : SemiringLaws R) (n : ℕ) (system : List (Inequality V)) (p : Inequality V) (sides : List (Side V)) (next : IsNext R n system p sides) (k : ℕ) (d : Side V) (l : k < length sides) where
+module _ {V : Type 0} {R : Semiring V} (laws : SemiringLaws R) (n : ℕ) (system : List (Inequality V)) (p : Inequality V)
+    (sides : List (Side V)) (next : IsNext R n system p sides) (k : ℕ) (d : Side V) (l : k < length sides) where
   at : ℕ
   at = k
 
@@ -48,15 +58,22 @@ module _ {V : Type 0} {R : Semiring V} (laws : SemiringLaws R) (n : ℕ) (system
   side_at = next.each k d l
 
   pub extreme_at : IsExtreme R (Solves R n system) (get_or sides k d).row
-  extreme_at = subst (IsExtreme R (Solves R n system)) (row_read sides k d (get_or sides k d).row l) (next.described.canonical.extreme k (get_or sides k d).row within)
+  extreme_at = subst (IsExtreme R (Solves R n system)) (row_read sides k d (get_or sides k d).row l)
+      (next.described.canonical.extreme k (get_or sides k d).row within)
 
   pub normal_at : IsNormal R (get_or sides k d).row
-  normal_at = subst (IsNormal R) (row_read sides k d (get_or sides k d).row l) (next.described.canonical.normal k (get_or sides k d).row within)
+  normal_at = subst (IsNormal R) (row_read sides k d (get_or sides k d).row l)
+      (next.described.canonical.normal k (get_or sides k d).row within)
 
   pub size_at : row_size R (get_or sides k d).row ≤ 2 ^ 57
-  size_at = subst (λ v. row_size R v ≤ 2 ^ 57) (row_read sides k d (get_or sides k d).row l) (described_fit laws n system (rows_of sides) next.inside next.described next.at_most next.size k (get_or sides k d).row within)
+  size_at = subst (λ v. row_size R v ≤ 2 ^ 57) (row_read sides k d (get_or sides k d).row l)
+      (described_fit laws n system (rows_of sides) next.inside next.described next.at_most next.size k
+      (get_or sides k d).row within)
 
   pub some_type : (t : ℕ) × Has (get_or sides k d).words.types t
   some_type =
-      let r = reached_from_extreme laws n system (get_or sides k d).row next.inside extreme_at in
-      (r.0, (side_at.words.types r.0).1 ((type_is_reached laws n system (get_or sides k d).row next.inside extreme_at.member r.0).1 r.1))
+      let r = reached_from_extreme laws n system (get_or sides k d).row next.inside extreme_at in (
+        r.0,
+        (side_at.words.types r.0).1 ((type_is_reached laws n system
+            (get_or sides k d).row next.inside extreme_at.member r.0).1 r.1),
+      )

@@ -1,41 +1,36 @@
 -- One more row is split off.
 use Rattle.std.proofs.Common.{◌≡◌, ◌≢◌, ◌<◌, ◌≤◌, ◌+◌, ℕ, List, [], ◌∷◌, ◌++◌, length, ⊎_elim, sym, ap, ◌∙◌, refl, arith, subst, get_or}
-use Rattle.std.specs.Prelude.{All, Any, AllPairs, Contains, ◌↔◌}
+use Rattle.std.specs.Prelude.{All, Any, AllPairs, Contains}
 use Rattle.std.proofs.lemmas.Bool.{cases_lt}
-use Rattle.std.proofs.lemmas.List.{get_or_default, length-append, get_or_append_left, map-append}
+use Rattle.std.proofs.lemmas.List.{get_or_default, length-append, get_or_append_left, get_or_push, map-append}
 use Rattle.std.proofs.lemmas.List.Elements.{All-nil, All-push, All-weaker, Contains-push, Contains-append_left}
 use Rattle.std.proofs.lemmas.List.Quantifiers.{Any-push, all_pairs_push}
 use Rattle.trop_theory.specs.Semiring.{Semiring}
 use Rattle.trop_theory.specs.Vectors.{dot}
 use Rattle.trop_theory.specs.Inequalities.{Inequality}
-use Rattle.trop_theory.specs.Canonical.{RowBelow}
 use Rattle.trop_theory.proofs.Truth.{HoldsOf}
 use Rattle.trop_pruning.specs.Judged.{Side, IsSide}
+use Rattle.trop_pruning.specs.Kept.{IsAddition}
+use Rattle.trop_pairs.specs.declared.keeping.Addition.{Addition}
 use Rattle.trop_dd.specs.declared.splitting.Kept.{Kept}
 use Rattle.trop_dd.specs.declared.splitting.Dropped.{Dropped}
-use Rattle.trop_dd.specs.Carried.{rows_of, AreCarried}
-use Rattle.trop_dd.specs.Parts.{IsKept, IsDropped, IsRowBefore, IsSplit}
-use Rattle.trop_dd.proofs.Places.{row_read, length-rows}
+use Rattle.trop_dd.specs.Carried.{AreCarried}
+use Rattle.trop_dd.specs.Parts.{IsKept, IsDropped, IsSplit, AreAdditions}
 
 Any-longer : {X : Type 0} (P : X → Type 0) (xs : List X) (y : X) → Any P xs → Any P (xs ++ y ∷ [])
-Any-longer P xs y h = (h.0, h.1, omega (arith, h.2, length-append xs (y ∷ [])), get_or_append_left xs (y ∷ []) h.1 h.0 h.2 ∙ h.3, h.4)
+Any-longer P xs y h = (
+  h.0,
+  h.1,
+  omega (arith, h.2, length-append xs (y ∷ [])),
+  get_or_append_left xs (y ∷ []) h.1 h.0 h.2 ∙ h.3,
+  h.4,
+)
 
--- one more row with what is carried beside it
-pub carried_push : {V : Type 0} (R : Semiring V) (n : ℕ) (system : List (Inequality V)) (rows : List (List V)) (sides : List (Side V)) (side : Side V) → AreCarried R n system rows sides → IsSide R n system side → AreCarried R n system (rows ++ side.row ∷ []) (sides ++ side ∷ [])
-carried_push R n system rows sides side h s = record {
-  each = All-push (IsSide R n system) sides side h.each s;
-  same = map-append (λ a. a.row) sides (side ∷ []) ∙ ap (λ w. w ++ side.row ∷ []) h.same;
-}
-
-pub carried_none : {V : Type 0} (R : Semiring V) (n : ℕ) (system : List (Inequality V)) → AreCarried R n system [] []
-carried_none R n system = record { each = All-nil (IsSide R n system); same = refl }
-
-module _ {V : Type 0} (R : Semiring V) (n : ℕ) (system : List (Inequality V)) (p : Inequality V) (sides : List (Side V)) where
-  pub split_none : IsSplit R n system p sides 0 [] [] [] []
+module _ {V : Type 0} (R : Semiring V) (p : Inequality V) (sides : List (Side V)) where
+  pub split_none : IsSplit R p sides 0 [] [] []
   split_none = record {
-    carried = carried_none R n (system ++ p ∷ []);
-    ascending = λ i j d lt l. absurd (omega arith);
-    stay_from = All-nil (λ v. IsRowBefore (rows_of sides) 0 v × HoldsOf R p.left p.right v);
+    stay_ascending = λ i j d lt l. absurd (omega arith);
+    stay_each = All-nil (λ k. (k < 0) × ((d : Side V) → HoldsOf R p.left p.right (get_or sides k d).row));
     stay_all = λ k d l h. absurd (omega arith);
     kept_each = All-nil (IsKept R p sides);
     kept_all = λ k d l h f. absurd (omega arith);
@@ -43,28 +38,34 @@ module _ {V : Type 0} (R : Semiring V) (n : ℕ) (system : List (Inequality V)) 
     dropped_all = λ k d l h. absurd (omega arith);
   }
 
-  pub split_start : (rows : List (List V)) (stay : List (Side V)) (kept : List (Kept V)) (dropped : List (Dropped V)) → rows ≡ [] → stay ≡ [] → kept ≡ [] → dropped ≡ [] → IsSplit R n system p sides 0 rows stay kept dropped
-  split_start rows stay kept dropped er es ek ed =
-      subst (λ a. IsSplit R n system p sides 0 a stay kept dropped) (sym er)
-      (subst (λ b. IsSplit R n system p sides 0 [] b kept dropped) (sym es)
-      (subst (λ c. IsSplit R n system p sides 0 [] [] c dropped) (sym ek)
-      (subst (IsSplit R n system p sides 0 [] [] []) (sym ed) split_none)))
+  pub split_start : (stay : List ℕ) (kept : List (Kept V)) (dropped : List (Dropped V)) → stay ≡ [] → kept ≡ [] →
+      dropped ≡ [] → IsSplit R p sides 0 stay kept dropped
+  split_start stay kept dropped es ek ed =
+      subst (λ b. IsSplit R p sides 0 b kept dropped) (sym es)
+      (subst (λ c. IsSplit R p sides 0 [] c dropped) (sym ek)
+      (subst (IsSplit R p sides 0 [] []) (sym ed) split_none))
 
-  before_more : (m : ℕ) (v : List V) → IsRowBefore (rows_of sides) m v × HoldsOf R p.left p.right v → IsRowBefore (rows_of sides) (m + 1) v × HoldsOf R p.left p.right v
-  before_more m v h = ((h.0.0, omega (arith, h.0.1), h.0.2, h.0.3), h.1)
+  module _ (m : ℕ) (stay : List ℕ) (kept : List (Kept V)) (dropped : List (Dropped V)) (side : Side V)
+      (within : m < length sides) (read : side ≡ get_or sides m side) (h : IsSplit R p sides m stay kept dropped) where
+    at : (k : ℕ) (d : Side V) → m ≤ k → k < m + 1 → get_or sides k d ≡ side
+    at k d low lt = ap (λ i. get_or sides i d) (let e : k ≡ m = omega arith in e) ∙ get_or_default sides m d side within
+        ∙ sym read
 
-  module _ (m : ℕ) (rows : List (List V)) (stay : List (Side V)) (kept : List (Kept V)) (dropped : List (Dropped V)) (side : Side V) (within : m < length sides) (read : side ≡ get_or sides m side) (h : IsSplit R n system p sides m rows stay kept dropped) where
-    at : (k : ℕ) (d : List V) → m ≤ k → k < m + 1 → get_or (rows_of sides) k d ≡ side.row
-    at k d low lt = ap (λ i. get_or (rows_of sides) i d) (let e : k ≡ m = omega arith in e) ∙ row_read sides m side d within ∙ sym (ap (λ s. s.row) read)
+    stay_before : All (λ k. (k < m + 1) × ((d : Side V) → HoldsOf R p.left p.right (get_or sides k d).row)) stay
+    stay_before = All-weaker (λ k. (k < m) × ((d : Side V) → HoldsOf R p.left p.right (get_or sides k d).row))
+        (λ k. (k < m + 1) × ((d : Side V) → HoldsOf R p.left p.right (get_or sides k d).row))
+        (λ k s. (omega (arith, s.0), s.1)) stay h.stay_each
 
-    pub split_drop : (part : Dropped V) → part.place ≡ m → IsDropped R p sides part → (HoldsOf R p.left p.right side.row → ⊥) → IsSplit R n system p sides (m + 1) rows stay kept (dropped ++ part ∷ [])
+    pub split_drop : (part : Dropped V) → part.place ≡ m → IsDropped R p sides part →
+        (HoldsOf R p.left p.right side.row → ⊥) → IsSplit R p sides (m + 1) stay kept (dropped ++ part ∷ [])
     split_drop part e is fails = record {
-      carried = h.carried;
-      ascending = h.ascending;
-      stay_from = All-weaker (λ v. IsRowBefore (rows_of sides) m v × HoldsOf R p.left p.right v) (λ v. IsRowBefore (rows_of sides) (m + 1) v × HoldsOf R p.left p.right v) (before_more m) rows h.stay_from;
-      stay_all = λ k d l holds. ⊎_elim (λ lt. h.stay_all k d lt holds) (λ le. absurd (fails (subst (HoldsOf R p.left p.right) (at k d le l) holds))) (cases_lt k m);
+      stay_ascending = h.stay_ascending;
+      stay_each = stay_before;
+      stay_all = λ k d l holds. ⊎_elim (λ lt. h.stay_all k d lt holds)
+          (λ le. absurd (fails (subst (λ s. HoldsOf R p.left p.right s.row) (at k d le l) holds))) (cases_lt k m);
       kept_each = h.kept_each;
-      kept_all = λ k d l holds f. ⊎_elim (λ lt. h.kept_all k d lt holds f) (λ le. absurd (fails (subst (HoldsOf R p.left p.right) (at k d le l) holds))) (cases_lt k m);
+      kept_all = λ k d l holds f. ⊎_elim (λ lt. h.kept_all k d lt holds f)
+          (λ le. absurd (fails (subst (λ s. HoldsOf R p.left p.right s.row) (at k d le l) holds))) (cases_lt k m);
       dropped_each = All-push (IsDropped R p sides) dropped part h.dropped_each is;
       dropped_all = λ k d l f. ⊎_elim
           (λ lt. Any-longer (λ q. q.place ≡ k) dropped part (h.dropped_all k d lt f))
@@ -72,38 +73,35 @@ module _ {V : Type 0} (R : Semiring V) (n : ℕ) (system : List (Inequality V)) 
           (cases_lt k m);
     }
 
-    module _ (ascending : AllPairs (RowBelow R) (rows_of sides)) (holds : HoldsOf R p.left p.right side.row) (new : Side V) (is_new : IsSide R n (system ++ p ∷ []) new) (same : new.row ≡ side.row) where
-      stays : AreCarried R n (system ++ p ∷ []) (rows ++ side.row ∷ []) (stay ++ new ∷ [])
-      stays = subst (λ v. AreCarried R n (system ++ p ∷ []) (rows ++ v ∷ []) (stay ++ new ∷ [])) same (carried_push R n (system ++ p ∷ []) rows stay new h.carried is_new)
+    module _ (holds : HoldsOf R p.left p.right side.row) where
+      stay_here : All (λ k. (k < m + 1) × ((d : Side V) → HoldsOf R p.left p.right (get_or sides k d).row))
+          (stay ++ m ∷ [])
+      stay_here = All-push (λ k. (k < m + 1) × ((d : Side V) → HoldsOf R p.left p.right (get_or sides k d).row)) stay
+          m stay_before (
+            omega arith,
+            λ d. subst (λ s. HoldsOf R p.left p.right s.row)
+                (sym (at m d (omega arith) (omega arith))) holds,
+          )
 
-      stay_ascending : AllPairs (RowBelow R) (rows ++ side.row ∷ [])
-      stay_ascending = all_pairs_push (RowBelow R) rows side.row h.ascending (λ k d l.
-          let f = (h.stay_from k d l).0 in
-          subst (λ v. RowBelow R v side.row) (get_or_default (rows_of sides) f.0 side.row (get_or rows k d) f.2 ∙ f.3)
-          (subst (RowBelow R (get_or (rows_of sides) f.0 side.row)) (at m side.row (omega arith) (omega arith)) (ascending f.0 m side.row f.1 (omega (arith, length-rows sides, within)))))
-
-      stay_here : All (λ v. IsRowBefore (rows_of sides) (m + 1) v × HoldsOf R p.left p.right v) (rows ++ side.row ∷ [])
-      stay_here = All-push (λ v. IsRowBefore (rows_of sides) (m + 1) v × HoldsOf R p.left p.right v) rows side.row
-          (All-weaker (λ v. IsRowBefore (rows_of sides) m v × HoldsOf R p.left p.right v) (λ v. IsRowBefore (rows_of sides) (m + 1) v × HoldsOf R p.left p.right v) (before_more m) rows h.stay_from)
-          ((m, omega arith, omega (arith, length-rows sides, within), at m side.row (omega arith) (omega arith)), holds)
-
-      stay_all : (k : ℕ) (d : List V) → k < m + 1 → HoldsOf R p.left p.right (get_or (rows_of sides) k d) → Contains (rows ++ side.row ∷ []) (get_or (rows_of sides) k d)
+      stay_all : (k : ℕ) (d : Side V) → k < m + 1 → HoldsOf R p.left p.right (get_or sides k d).row →
+          Contains (stay ++ m ∷ []) k
       stay_all k d l t = ⊎_elim
-          (λ lt. Contains-append_left rows (side.row ∷ []) (get_or (rows_of sides) k d) (h.stay_all k d lt t))
-          (λ le. subst (Contains (rows ++ side.row ∷ [])) (sym (at k d le l)) (Contains-push rows side.row))
+          (λ lt. Contains-append_left stay (m ∷ []) k (h.stay_all k d lt t))
+          (λ le. subst (Contains (stay ++ m ∷ [])) (omega (arith, le, l)) (Contains-push stay m))
           (cases_lt k m)
 
-      dropped_all : (k : ℕ) (d : List V) → k < m + 1 → (HoldsOf R p.left p.right (get_or (rows_of sides) k d) → ⊥) → Any (λ q. q.place ≡ k) dropped
+      dropped_all : (k : ℕ) (d : Side V) → k < m + 1 → (HoldsOf R p.left p.right (get_or sides k d).row → ⊥) →
+          Any (λ q. q.place ≡ k) dropped
       dropped_all k d l f = ⊎_elim
           (λ lt. h.dropped_all k d lt f)
-          (λ le. absurd (f (subst (HoldsOf R p.left p.right) (sym (at k d le l)) holds)))
+          (λ le. absurd (f (subst (λ s. HoldsOf R p.left p.right s.row) (sym (at k d le l)) holds)))
           (cases_lt k m)
 
-      pub split_keep : (part : Kept V) → part.place ≡ m → IsKept R p sides part → IsSplit R n system p sides (m + 1) (rows ++ side.row ∷ []) (stay ++ new ∷ []) (kept ++ part ∷ []) dropped
+      pub split_keep : (part : Kept V) → part.place ≡ m → IsKept R p sides part →
+          IsSplit R p sides (m + 1) (stay ++ m ∷ []) (kept ++ part ∷ []) dropped
       split_keep part e is = record {
-        carried = stays;
-        ascending = stay_ascending;
-        stay_from = stay_here;
+        stay_ascending = all_pairs_push (λ i j. i < j) stay m h.stay_ascending (λ k d l. (h.stay_each k d l).0);
+        stay_each = stay_here;
         stay_all = stay_all;
         kept_each = All-push (IsKept R p sides) kept part h.kept_each is;
         kept_all = λ k d l t f. ⊎_elim
@@ -114,17 +112,55 @@ module _ {V : Type 0} (R : Semiring V) (n : ℕ) (system : List (Inequality V)) 
         dropped_all = dropped_all;
       }
 
-      pub split_keep_alone : dot R p.right side.row ≡ R.zero → IsSplit R n system p sides (m + 1) (rows ++ side.row ∷ []) (stay ++ new ∷ []) kept dropped
+      pub split_keep_alone : dot R p.right side.row ≡ R.zero → IsSplit R p sides (m + 1) (stay ++ m ∷ []) kept dropped
       split_keep_alone z = record {
-        carried = stays;
-        ascending = stay_ascending;
-        stay_from = stay_here;
+        stay_ascending = all_pairs_push (λ i j. i < j) stay m h.stay_ascending (λ k d l. (h.stay_each k d l).0);
+        stay_each = stay_here;
         stay_all = stay_all;
         kept_each = h.kept_each;
         kept_all = λ k d l t f. ⊎_elim
             (λ lt. h.kept_all k d lt t f)
-            (λ le. absurd (f (ap (dot R p.right) (at k d le l) ∙ z)))
+            (λ le. absurd (f (ap (λ s. dot R p.right s.row) (at k d le l) ∙ z)))
             (cases_lt k m);
         dropped_each = h.dropped_each;
         dropped_all = dropped_all;
       }
+
+module _ {V : Type 0} (R : Semiring V) (n : ℕ) (system : List (Inequality V)) (p : Inequality V)
+    (sides : List (Side V)) where
+  pub additions_start : (additions : List (Addition V)) → additions ≡ [] → AreAdditions R n system p sides 0 additions
+  additions_start additions e = record { many = ap length e; each = λ k d f l h. absurd (omega arith) }
+
+  -- one more row with what is put beside it
+  pub additions_more : (m : ℕ) (additions new : List (Addition V)) (one : Addition V) (side : Side V) →
+      m < length sides → side ≡ get_or sides m side → AreAdditions R n system p sides m additions →
+      new ≡ additions ++ one ∷ [] → (HoldsOf R p.left p.right side.row →
+      IsAddition R n system p side one.slot one.types one.alone) → AreAdditions R n system p sides (m + 1) new
+  additions_more m additions new one side l read h e a =
+      subst (AreAdditions R n system p sides (m + 1)) (sym e) (record {
+        many = omega (arith, length-append additions (one ∷ []), h.many);
+        each = λ k d f lt holds. ⊎_elim
+            (λ old. subst (λ x. IsAddition R n system p (get_or sides k d) x.slot x.types x.alone)
+            (sym (get_or_append_left additions (one ∷ []) f k (omega (arith, h.many, old)))) (h.each k d f old holds))
+            (λ le.
+            let same : k ≡ m = omega arith in
+            let at : get_or sides k d ≡ side = ap (λ i. get_or sides i d) same ∙ get_or_default sides m d side l
+            ∙ sym read in
+            subst (λ x. IsAddition R n system p (get_or sides k d) x.slot x.types x.alone)
+            (sym (get_or_push additions one f k (h.many ∙ sym same)))
+            (subst (λ s. IsAddition R n system p s one.slot one.types one.alone) (sym at)
+            (a (subst (λ s. HoldsOf R p.left p.right s.row) at holds))))
+            (cases_lt k m);
+      })
+
+-- one more row with what is carried beside it
+pub carried_push : {V : Type 0} (R : Semiring V) (n : ℕ) (system : List (Inequality V)) (rows : List (List V))
+    (sides : List (Side V)) (side : Side V) → AreCarried R n system rows sides → IsSide R n system side →
+    AreCarried R n system (rows ++ side.row ∷ []) (sides ++ side ∷ [])
+carried_push R n system rows sides side h s = record {
+  each = All-push (IsSide R n system) sides side h.each s;
+  same = map-append (λ a. a.row) sides (side ∷ []) ∙ ap (λ w. w ++ side.row ∷ []) h.same;
+}
+
+pub carried_none : {V : Type 0} (R : Semiring V) (n : ℕ) (system : List (Inequality V)) → AreCarried R n system [] []
+carried_none R n system = record { each = All-nil (IsSide R n system); same = refl }

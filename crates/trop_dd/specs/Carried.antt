@@ -1,5 +1,5 @@
 -- The rows of a cone with all that is carried beside them, and one more inequality.
-use Rattle.std.specs.Prelude.{◌≡◌, ◌^◌, ◌≤◌, ℕ, List, All, map}
+use Rattle.std.specs.Prelude.{◌≡◌, ◌^◌, ◌≤◌, ◌++◌, ℕ, List, [], All, map, slice_index_or}
 use Rattle.trop_theory.specs.Semiring.{Semiring}
 use Rattle.trop_theory.specs.Inequalities.{Inequality, IsIn, inequality_size, system_size}
 use Rattle.trop_pruning.specs.Judged.{Side, IsSide}
@@ -9,13 +9,19 @@ use Rattle.trop_dd.specs.Description.{Describes}
 abbrev pub rows_of : {V : Type 0} → List (Side V) → List (List V)
 rows_of sides = map (λ side. side.row) sides
 
+-- the rows of these numbers, where new rows come behind the old ones
+abbrev pub found_rows : {V : Type 0} → List (Side V) → List (Side V) → List ℕ → List (List V)
+found_rows sides fresh order = map (λ k. slice_index_or (rows_of (sides ++ fresh)) k []) order
+
 -- the rows are those that describe the system, each with what is carried beside it
-pub record AreCarried {V : Type 0} (R : Semiring V) (n : ℕ) (system : List (Inequality V)) (rows : List (List V)) (sides : List (Side V)) : Type 0 where
+pub record AreCarried {V : Type 0} (R : Semiring V) (n : ℕ) (system : List (Inequality V)) (rows : List (List V))
+    (sides : List (Side V)) : Type 0 where
   pub each : All (IsSide R n system) sides
   pub same : rows_of sides ≡ rows
 
 -- the sides are carried beside the rows that describe the system, and p is one more inequality
-pub record IsNext {V : Type 0} (R : Semiring V) (n : ℕ) (system : List (Inequality V)) (p : Inequality V) (sides : List (Side V)) : Type 0 where
+pub record IsNext {V : Type 0} (R : Semiring V) (n : ℕ) (system : List (Inequality V)) (p : Inequality V)
+    (sides : List (Side V)) : Type 0 where
   pub at_most : n ≤ 64
   pub inside : All (IsIn n) system
   pub last : IsIn n p

@@ -1,3 +1,4 @@
+// A double description, to which inequalities are pushed.
 ghost use Rattle.std.specs.Prelude.{◌≡◌, ◌-◌, ◌*◌, ◌^◌, ◌<◌, ◌≤◌, [], ◌∷◌, ◌++◌, All, OnOk, OnErr, IfOk, IfErr, length, take};
 ghost use Rattle.trop_theory.specs.Vectors.{row_size};
 ghost use Rattle.trop_theory.specs.Inequalities.{IsIn, Solves, inequality_size, system_size};
@@ -8,8 +9,7 @@ ghost use Rattle.trop_dd.specs.Units.{IsUnitRow};
 
 use crate::copying::{copied_rows, copied_sides, copied_system};
 use crate::error::DdErr;
-use crate::found::Found;
-use crate::narrowing::narrowed;
+use crate::narrowing::narrow;
 use crate::units::{unit_rows, unit_sides};
 use std::alloc::{AllocError, Global};
 use std::marker::Model;
@@ -41,7 +41,8 @@ impl<S: Scalar> Model for Dd<S> {
 
     ghost view = { λ a. record { n = a.system.n; system = a.system.inequalities; rows = a.rows.rows } };
 
-    ghost invariant = { λ a. (a.rows.n ≡ a.system.n) × IsSound S.ring a.system.n a.system.inequalities a.rows.rows × AreCarried S.ring a.system.n a.system.inequalities a.rows.rows a.sides.items };
+    ghost invariant = { λ a. (a.rows.n ≡ a.system.n) × IsSound S.ring a.system.n a.system.inequalities a.rows.rows
+        × AreCarried S.ring a.system.n a.system.inequalities a.rows.rows a.sides.items };
 }
 
 impl<S: Scalar> Dd<S> {
@@ -84,13 +85,16 @@ impl<S: Scalar> Dd<S> {
         ensures kept { looks.old ≤ looks.new }
     {
         let n = self.system.n();
-        let found = narrowed(alloc, &self.system, &ineq, self.sides.as_slice(), looks)?;
-        let Found { rows, sides, room } = found;
-        drop(room);
+        self.system.reserve(1)?;
+        let found = narrow(alloc, &self.system, &ineq, &mut self.sides, looks)?;
         self.system.push(ineq)?;
-        self.rows = Gens::from_rows(n, rows);
-        self.sides = sides;
-        Ok(())
+        match found {
+            None => Ok(()),
+            Some(rows) => {
+                self.rows = Gens::from_rows(n, rows);
+                Ok(())
+            }
+        }
     }
 
     /// The canonical list of the solutions of all inequalities pushed. Where these have size at most M, the rows have
@@ -99,7 +103,8 @@ impl<S: Scalar> Dd<S> {
         ensures rows { result.now.rows ≡ self.now.rows }
         ensures width { result.now.n ≡ self.now.n }
         ensures described { Describes S.ring self.now.n self.now.system self.now.rows }
-        ensures small { All (λ row. row_size S.ring row ≤ 4 * system_size S.ring self.now.system * (self.now.n - 1)) self.now.rows }
+        ensures small { All (λ row. row_size S.ring row ≤ 4 * system_size S.ring self.now.system * (self.now.n - 1))
+            self.now.rows }
         ensures spread { HaveSpread S.ring (4 * system_size S.ring self.now.system * (self.now.n - 1)) self.now.rows }
     {
         &self.rows

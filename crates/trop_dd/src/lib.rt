@@ -10,6 +10,7 @@ mod found;
 mod laws;
 mod mixing;
 mod narrowing;
+mod settling;
 mod splitting;
 mod units;
 
@@ -17,6 +18,3 @@ pub use convert::extreme_rows;
 pub use dd::Dd;
 pub use error::DdErr;
 pub use laws::equal_rows_are_equal_solutions;
-
-#[cfg(test)]
-mod tests;

@@ -7,7 +7,7 @@ ghost use Rattle.trop_theory.specs.Canonical.{row_limit};
 ghost use Rattle.trop_pruning.specs.Judged.{Side, IsSide};
 ghost use Rattle.trop_pruning.specs.Pairs.{IsClosing};
 ghost use Rattle.trop_dd.specs.Description.{IsRefusedBy};
-ghost use Rattle.trop_dd.specs.Carried.{IsNext};
+ghost use Rattle.trop_dd.specs.Carried.{IsNext, found_rows};
 ghost use Rattle.trop_dd.specs.Parts.{IsKept, IsDropped};
 ghost use Rattle.trop_dd.specs.Steps.{AreFound, Grows, HasGiven, IsFit, IsGiven, IsFactor, AreMultiples};
 
@@ -69,7 +69,8 @@ fn mix<S: Scalar>(
     Ok(mixed)
 }
 
-// What is carried beside the row that a pair gives. It is `by` times that of the pair, so `first` times v and `second` times w,
+// What is carried beside the row that a pair gives. It is `by` times that of the pair, so `first` times v and `second`
+// times w,
 // and the room has its hyperedges.
 fn carried<S: Scalar>(
     alloc: Global,
@@ -86,8 +87,10 @@ fn carried<S: Scalar>(
     room: &Hyper,
     looks: &mut Looks,
 ) -> Result<Carried<S>, AllocError>
-    requires multiples { AreMultiples S.ring system.now.n system.now.inequalities ineq.now v.now w.now slot by first second }
-    requires given { IsGiven S.ring system.now.n system.now.inequalities ineq.now v.now.row w.now.row types room.now.edges }
+    requires multiples { AreMultiples S.ring system.now.n system.now.inequalities ineq.now v.now w.now slot by first
+        second }
+    requires given { IsGiven S.ring system.now.n system.now.inequalities ineq.now v.now.row w.now.row types
+        room.now.edges }
     requires row { row ≡ joined S.ring (scaled S.ring first v.now.row) (scaled S.ring second w.now.row) }
     ensures side { IfOk result (IsSide S.ring system.now.n (system.now.inequalities ++ ineq.now ∷ [])) }
     ensures row { IfOk result (λ side. side.row ≡ row) }
@@ -109,6 +112,7 @@ fn admit<S: Scalar>(
     alloc: Global,
     system: &System<S>,
     ineq: &Ineq<S>,
+    sides: &[Carried<S>],
     v: &Carried<S>,
     left: S,
     w: &Carried<S>,
@@ -118,22 +122,29 @@ fn admit<S: Scalar>(
     found: &mut Found<S>,
     looks: &mut Looks,
 ) -> Result<(), AllocError>
+    requires next { IsNext S.ring system.now.n system.now.inequalities ineq.now sides.now }
+    requires within { length found.old.order.items ≤ row_limit }
     requires fit { IsFit S.ring system.now.n system.now.inequalities ineq.now v.now w.now left right slot }
-    requires given { IsGiven S.ring system.now.n system.now.inequalities ineq.now v.now.row w.now.row types found.old.room.edges }
-    requires found { AreFound S.ring system.now.n (system.now.inequalities ++ ineq.now ∷ []) found.old.rows.items found.old.sides.items }
-    ensures found { OnOk result (AreFound S.ring system.now.n (system.now.inequalities ++ ineq.now ∷ []) found.new.rows.items found.new.sides.items) }
-    ensures stay { OnOk result (All (Contains found.new.rows.items) found.old.rows.items) }
-    ensures count { OnOk result (length found.new.rows.items ≤ length found.old.rows.items + 1) }
-    ensures admitted { OnOk result ((x : List S) → Normalises S.ring (mixed S.ring ineq.now.left ineq.now.right v.now.row w.now.row) x → Contains found.new.rows.items x) }
+    requires given { IsGiven S.ring system.now.n system.now.inequalities ineq.now v.now.row w.now.row types
+        found.old.room.edges }
+    requires found { AreFound S.ring system.now.n system.now.inequalities ineq.now sides.now found.old.fresh.items
+        found.old.order.items }
+    ensures found { OnOk result (AreFound S.ring system.now.n system.now.inequalities ineq.now sides.now
+        found.new.fresh.items found.new.order.items) }
+    ensures stay { OnOk result (All (Contains (found_rows sides.now found.new.fresh.items found.new.order.items))
+        (found_rows sides.now found.old.fresh.items found.old.order.items)) }
+    ensures count { OnOk result (length found.new.order.items ≤ length found.old.order.items + 1) }
+    ensures admitted { OnOk result ((x : List S) →
+        Normalises S.ring (mixed S.ring ineq.now.left ineq.now.right v.now.row w.now.row) x →
+        Contains (found_rows sides.now found.new.fresh.items found.new.order.items) x) }
     ensures looks { looks.old ≤ looks.new }
 {
     let by = factor(system, ineq, v, left, w, right, slot);
     let (first, second) = (by.times(left), by.times(right));
     let row = mix(alloc, v.row(), first, w.row(), second)?;
-    match place_of(found.rows.as_slice(), &row) {
+    match place_of(sides, found.fresh.as_slice(), found.order.as_slice(), &row) {
         Ok(_) => Ok(()),
         Err(place) => {
-            let copy = row.copy(alloc)?;
             let side = carried(
                 alloc,
                 system,
@@ -144,12 +155,13 @@ fn admit<S: Scalar>(
                 second,
                 slot,
                 by,
-                copy,
+                row,
                 types,
                 &found.room,
                 looks,
             )?;
-            put(found, place, row, side)?;
+            let number = sides.len() + found.fresh.len();
+            put(found, number, place, side)?;
             Ok(())
         }
     }
@@ -169,12 +181,16 @@ fn judge_pair<S: Scalar>(
     requires next { IsNext S.ring system.now.n system.now.inequalities ineq.now sides.now }
     requires kept { IsKept S.ring ineq.now sides.now kept.now }
     requires dropped { IsDropped S.ring ineq.now sides.now dropped.now }
-    requires found { AreFound S.ring system.now.n (system.now.inequalities ++ ineq.now ∷ []) found.old.rows.items found.old.sides.items }
-    requires within { length found.old.rows.items ≤ row_limit }
-    ensures found { OnOk result (AreFound S.ring system.now.n (system.now.inequalities ++ ineq.now ∷ []) found.new.rows.items found.new.sides.items) }
-    ensures grows { OnOk result (Grows found.old.rows.items found.new.rows.items looks.old looks.new) }
-    ensures given { OnOk result (HasGiven S.ring system.now.n system.now.inequalities ineq.now sides.now found.new.rows.items kept.now dropped.now) }
-    ensures within { OnOk result (length found.new.rows.items ≤ row_limit) }
+    requires found { AreFound S.ring system.now.n system.now.inequalities ineq.now sides.now found.old.fresh.items
+        found.old.order.items }
+    requires within { length found.old.order.items ≤ row_limit }
+    ensures found { OnOk result (AreFound S.ring system.now.n system.now.inequalities ineq.now sides.now
+        found.new.fresh.items found.new.order.items) }
+    ensures grows { OnOk result (Grows (found_rows sides.now found.old.fresh.items found.old.order.items)
+        (found_rows sides.now found.new.fresh.items found.new.order.items) looks.old looks.new) }
+    ensures given { OnOk result (HasGiven S.ring system.now.n system.now.inequalities ineq.now sides.now
+        (found_rows sides.now found.new.fresh.items found.new.order.items) kept.now dropped.now) }
+    ensures within { OnOk result (length found.new.order.items ≤ row_limit) }
     ensures refused { IfErr result (IsRefusedBy S.ring system.now.n (system.now.inequalities ++ ineq.now ∷ [])) }
     ensures looks { looks.old ≤ looks.new }
 {
@@ -196,9 +212,9 @@ fn judge_pair<S: Scalar>(
         None => Ok(()),
         Some(types) => {
             admit(
-                alloc, system, ineq, v, left, w, right, slot, types, found, looks,
+                alloc, system, ineq, sides, v, left, w, right, slot, types, found, looks,
             )?;
-            if found.rows.len() > ROW_LIMIT {
+            if found.order.len() > ROW_LIMIT {
                 return Err(DdErr::Limit(system.len() + 1));
             }
             Ok(())
@@ -206,7 +222,8 @@ fn judge_pair<S: Scalar>(
     }
 }
 
-// Tries the row that a kept and a dropped row give, but where their words reject it. `closed` is what the kept row closes.
+// Tries the row that a kept and a dropped row give, but where their words reject it. `closed` is what the kept row
+// closes.
 fn try_pair<S: Scalar>(
     alloc: Global,
     system: &System<S>,
@@ -224,12 +241,16 @@ fn try_pair<S: Scalar>(
     requires words { (d : Side S) → words ≡ (slice_index_or sides.now kept.now.place d).words }
     requires closed { IsClosing words.cover kept.now.slot.tail closed }
     requires dropped { IsDropped S.ring ineq.now sides.now dropped.now }
-    requires found { AreFound S.ring system.now.n (system.now.inequalities ++ ineq.now ∷ []) found.old.rows.items found.old.sides.items }
-    requires within { length found.old.rows.items ≤ row_limit }
-    ensures found { OnOk result (AreFound S.ring system.now.n (system.now.inequalities ++ ineq.now ∷ []) found.new.rows.items found.new.sides.items) }
-    ensures grows { OnOk result (Grows found.old.rows.items found.new.rows.items looks.old looks.new) }
-    ensures given { OnOk result (HasGiven S.ring system.now.n system.now.inequalities ineq.now sides.now found.new.rows.items kept.now dropped.now) }
-    ensures within { OnOk result (length found.new.rows.items ≤ row_limit) }
+    requires found { AreFound S.ring system.now.n system.now.inequalities ineq.now sides.now found.old.fresh.items
+        found.old.order.items }
+    requires within { length found.old.order.items ≤ row_limit }
+    ensures found { OnOk result (AreFound S.ring system.now.n system.now.inequalities ineq.now sides.now
+        found.new.fresh.items found.new.order.items) }
+    ensures grows { OnOk result (Grows (found_rows sides.now found.old.fresh.items found.old.order.items)
+        (found_rows sides.now found.new.fresh.items found.new.order.items) looks.old looks.new) }
+    ensures given { OnOk result (HasGiven S.ring system.now.n system.now.inequalities ineq.now sides.now
+        (found_rows sides.now found.new.fresh.items found.new.order.items) kept.now dropped.now) }
+    ensures within { OnOk result (length found.new.order.items ≤ row_limit) }
     ensures refused { IfErr result (IsRefusedBy S.ring system.now.n (system.now.inequalities ++ ineq.now ∷ [])) }
     ensures looks { looks.old ≤ looks.new }
 {
@@ -253,12 +274,16 @@ fn try_each<S: Scalar>(
     requires next { IsNext S.ring system.now.n system.now.inequalities ineq.now sides.now }
     requires kept { IsKept S.ring ineq.now sides.now kept.now }
     requires dropped { All (IsDropped S.ring ineq.now sides.now) dropped.now }
-    requires found { AreFound S.ring system.now.n (system.now.inequalities ++ ineq.now ∷ []) found.old.rows.items found.old.sides.items }
-    requires within { length found.old.rows.items ≤ row_limit }
-    ensures found { OnOk result (AreFound S.ring system.now.n (system.now.inequalities ++ ineq.now ∷ []) found.new.rows.items found.new.sides.items) }
-    ensures grows { OnOk result (Grows found.old.rows.items found.new.rows.items looks.old looks.new) }
-    ensures given { OnOk result (All (λ part. HasGiven S.ring system.now.n system.now.inequalities ineq.now sides.now found.new.rows.items kept.now part) dropped.now) }
-    ensures within { OnOk result (length found.new.rows.items ≤ row_limit) }
+    requires found { AreFound S.ring system.now.n system.now.inequalities ineq.now sides.now found.old.fresh.items
+        found.old.order.items }
+    requires within { length found.old.order.items ≤ row_limit }
+    ensures found { OnOk result (AreFound S.ring system.now.n system.now.inequalities ineq.now sides.now
+        found.new.fresh.items found.new.order.items) }
+    ensures grows { OnOk result (Grows (found_rows sides.now found.old.fresh.items found.old.order.items)
+        (found_rows sides.now found.new.fresh.items found.new.order.items) looks.old looks.new) }
+    ensures given { OnOk result (All (λ part. HasGiven S.ring system.now.n system.now.inequalities ineq.now sides.now
+        (found_rows sides.now found.new.fresh.items found.new.order.items) kept.now part) dropped.now) }
+    ensures within { OnOk result (length found.new.order.items ≤ row_limit) }
     ensures refused { IfErr result (IsRefusedBy S.ring system.now.n (system.now.inequalities ++ ineq.now ∷ [])) }
     ensures looks { looks.old ≤ looks.new }
 {
@@ -287,12 +312,16 @@ fn try_kept<S: Scalar>(
     requires next { IsNext S.ring system.now.n system.now.inequalities ineq.now sides.now }
     requires kept { IsKept S.ring ineq.now sides.now kept.now }
     requires dropped { All (IsDropped S.ring ineq.now sides.now) dropped.now }
-    requires found { AreFound S.ring system.now.n (system.now.inequalities ++ ineq.now ∷ []) found.old.rows.items found.old.sides.items }
-    requires within { length found.old.rows.items ≤ row_limit }
-    ensures found { OnOk result (AreFound S.ring system.now.n (system.now.inequalities ++ ineq.now ∷ []) found.new.rows.items found.new.sides.items) }
-    ensures grows { OnOk result (Grows found.old.rows.items found.new.rows.items looks.old looks.new) }
-    ensures given { OnOk result (All (λ part. HasGiven S.ring system.now.n system.now.inequalities ineq.now sides.now found.new.rows.items kept.now part) dropped.now) }
-    ensures within { OnOk result (length found.new.rows.items ≤ row_limit) }
+    requires found { AreFound S.ring system.now.n system.now.inequalities ineq.now sides.now found.old.fresh.items
+        found.old.order.items }
+    requires within { length found.old.order.items ≤ row_limit }
+    ensures found { OnOk result (AreFound S.ring system.now.n system.now.inequalities ineq.now sides.now
+        found.new.fresh.items found.new.order.items) }
+    ensures grows { OnOk result (Grows (found_rows sides.now found.old.fresh.items found.old.order.items)
+        (found_rows sides.now found.new.fresh.items found.new.order.items) looks.old looks.new) }
+    ensures given { OnOk result (All (λ part. HasGiven S.ring system.now.n system.now.inequalities ineq.now sides.now
+        (found_rows sides.now found.new.fresh.items found.new.order.items) kept.now part) dropped.now) }
+    ensures within { OnOk result (length found.new.order.items ≤ row_limit) }
     ensures refused { IfErr result (IsRefusedBy S.ring system.now.n (system.now.inequalities ++ ineq.now ∷ [])) }
     ensures looks { looks.old ≤ looks.new }
 {
@@ -320,12 +349,17 @@ pub fn try_all<S: Scalar>(
     requires next { IsNext S.ring system.now.n system.now.inequalities ineq.now sides.now }
     requires kept { All (IsKept S.ring ineq.now sides.now) kept.now }
     requires dropped { All (IsDropped S.ring ineq.now sides.now) dropped.now }
-    requires found { AreFound S.ring system.now.n (system.now.inequalities ++ ineq.now ∷ []) found.old.rows.items found.old.sides.items }
-    requires within { length found.old.rows.items ≤ row_limit }
-    ensures found { OnOk result (AreFound S.ring system.now.n (system.now.inequalities ++ ineq.now ∷ []) found.new.rows.items found.new.sides.items) }
-    ensures grows { OnOk result (Grows found.old.rows.items found.new.rows.items looks.old looks.new) }
-    ensures given { OnOk result (All (λ first. All (λ second. HasGiven S.ring system.now.n system.now.inequalities ineq.now sides.now found.new.rows.items first second) dropped.now) kept.now) }
-    ensures within { OnOk result (length found.new.rows.items ≤ row_limit) }
+    requires found { AreFound S.ring system.now.n system.now.inequalities ineq.now sides.now found.old.fresh.items
+        found.old.order.items }
+    requires within { length found.old.order.items ≤ row_limit }
+    ensures found { OnOk result (AreFound S.ring system.now.n system.now.inequalities ineq.now sides.now
+        found.new.fresh.items found.new.order.items) }
+    ensures grows { OnOk result (Grows (found_rows sides.now found.old.fresh.items found.old.order.items)
+        (found_rows sides.now found.new.fresh.items found.new.order.items) looks.old looks.new) }
+    ensures given { OnOk result (All (λ first. All
+        (λ second. HasGiven S.ring system.now.n system.now.inequalities ineq.now sides.now
+        (found_rows sides.now found.new.fresh.items found.new.order.items) first second) dropped.now) kept.now) }
+    ensures within { OnOk result (length found.new.order.items ≤ row_limit) }
     ensures refused { IfErr result (IsRefusedBy S.ring system.now.n (system.now.inequalities ++ ineq.now ∷ [])) }
     ensures looks { looks.old ≤ looks.new }
 {

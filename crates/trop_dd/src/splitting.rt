@@ -6,12 +6,12 @@ ghost use Rattle.trop_criterion.specs.Hypergraphs.{Has};
 ghost use Rattle.trop_pruning.specs.Slots.{IsSlot};
 ghost use Rattle.trop_pruning.specs.Judged.{IsSide};
 ghost use Rattle.trop_dd.specs.Carried.{IsNext};
-ghost use Rattle.trop_dd.specs.Parts.{IsSplit};
+ghost use Rattle.trop_dd.specs.Parts.{IsSplit, AreAdditions};
 
 use std::alloc::{AllocError, Global};
 use trop_hyper::{Hyper, Looks, Mask};
-use trop_pairs::{Carried, RowSlot, RowWords, is_zero, keep, reaching, slot_of};
-use trop_row::{Ineq, Row, System};
+use trop_pairs::{Addition, Carried, RowSlot, RowWords, addition_of, is_zero, reaching, slot_of};
+use trop_row::{Ineq, System};
 use trop_scalar::Scalar;
 
 // A row at which an inequality is true, by its place in a list, with its slot there.
@@ -37,7 +37,8 @@ impl<S: Scalar> Kept<S> {
     }
 }
 
-// A row at which an inequality is not true, by its place in a list, with its left sum, the coordinates that reach it, and its
+// A row at which an inequality is not true, by its place in a list, with its left sum, the coordinates that reach it,
+// and its
 // words.
 #[derive(Clone, Copy)]
 pub struct Dropped<S> {
@@ -47,12 +48,13 @@ pub struct Dropped<S> {
     pub words: RowWords,
 }
 
-// Of the rows of a list: those at which an inequality is true, with what is carried beside them from then on, the places of
-// these whose right sum is finite, and the places of the other rows.
+// What an inequality puts beside each row of a list, the places of those at which it is true, the ones of these whose
+// right
+// sum is finite, and the other rows.
 #[derive(Drop)]
 pub struct Split<S: Scalar> {
-    pub rows: Vec<Row<S>>,
-    pub sides: Vec<Carried<S>>,
+    pub additions: Vec<Addition<S>>,
+    pub stay: Vec<usize>,
     pub kept: Vec<Kept<S>>,
     pub dropped: Vec<Dropped<S>>,
 }
@@ -67,24 +69,39 @@ pub fn split_sides<S: Scalar>(
     looks: &mut Looks,
 ) -> Result<Split<S>, AllocError>
     requires next { IsNext S.ring system.now.n system.now.inequalities ineq.now sides.now }
-    ensures split { IfOk result (λ split. IsSplit S.ring system.now.n system.now.inequalities ineq.now sides.now (length sides.now) split.rows.items split.sides.items split.kept.items split.dropped.items) }
+    ensures split { IfOk result (λ split. IsSplit S.ring ineq.now sides.now
+        (length sides.now) split.stay.items split.kept.items split.dropped.items) }
+    ensures additions { IfOk result (λ split. AreAdditions S.ring system.now.n system.now.inequalities ineq.now
+        sides.now (length sides.now) split.additions.items) }
     ensures looks { looks.old ≤ looks.new }
 {
     let mut split = Split {
-        rows: Vec::with_capacity(alloc, sides.len())?,
-        sides: Vec::with_capacity(alloc, sides.len())?,
+        additions: Vec::with_capacity(alloc, sides.len())?,
+        stay: Vec::with_capacity(alloc, sides.len())?,
         kept: Vec::with_capacity(alloc, sides.len())?,
         dropped: Vec::new(alloc),
     };
     for place in 0..sides.len() {
-        split_side(alloc, room, system, ineq, sides, place, &mut split, looks)?;
+        split_side(room, system, ineq, sides, place, &mut split, looks)?;
     }
     Ok(split)
 }
 
+// What stands for a row that is dropped.
+fn nothing<S: Scalar>(sum: S) -> Addition<S> {
+    Addition {
+        slot: RowSlot {
+            sum,
+            tail: Mask::empty(),
+            head: Mask::empty(),
+        },
+        types: Mask::empty(),
+        alone: Mask::empty(),
+    }
+}
+
 // Puts the row at the place to where it belongs.
 fn split_side<S: Scalar>(
-    alloc: Global,
     room: &mut Hyper,
     system: &System<S>,
     ineq: &Ineq<S>,
@@ -95,8 +112,14 @@ fn split_side<S: Scalar>(
 ) -> Result<(), AllocError>
     requires next { IsNext S.ring system.now.n system.now.inequalities ineq.now sides.now }
     requires within { place < length sides.now }
-    requires split { IsSplit S.ring system.now.n system.now.inequalities ineq.now sides.now place split.old.rows.items split.old.sides.items split.old.kept.items split.old.dropped.items }
-    ensures split { OnOk result (IsSplit S.ring system.now.n system.now.inequalities ineq.now sides.now (place + 1) split.new.rows.items split.new.sides.items split.new.kept.items split.new.dropped.items) }
+    requires split { IsSplit S.ring ineq.now sides.now place split.old.stay.items split.old.kept.items
+        split.old.dropped.items }
+    requires additions { AreAdditions S.ring system.now.n system.now.inequalities ineq.now sides.now place
+        split.old.additions.items }
+    ensures split { OnOk result (IsSplit S.ring ineq.now sides.now (place + 1) split.new.stay.items split.new.kept.items
+        split.new.dropped.items) }
+    ensures additions { OnOk result (AreAdditions S.ring system.now.n system.now.inequalities ineq.now sides.now
+        (place + 1) split.new.additions.items) }
     ensures looks { looks.old ≤ looks.new }
 {
     let side = &sides[place];
@@ -110,14 +133,13 @@ fn split_side<S: Scalar>(
             reached,
             words: side.words(),
         })?;
+        split.additions.push(nothing(right))?;
         return Ok(());
     }
     let slot = slot_of(ineq, side.row(), left, right);
-    let copy = side.copy(alloc)?;
-    split.rows.push(side.row().copy(alloc)?)?;
-    split
-        .sides
-        .push(keep(room, system, ineq, copy, slot, looks)?)?;
+    let added = addition_of(room, system, ineq, side, slot, looks)?;
+    split.additions.push(added)?;
+    split.stay.push(place)?;
     if !is_zero(right) {
         split.kept.push(Kept { place, slot })?;
     }

@@ -19,7 +19,8 @@ pub fn unit_rows<S: Scalar>(alloc: Global, n: u32) -> Result<Vec<Row<S>>, AllocE
     ensures wide { IfOk result (λ rows. AreWide n rows.items) }
     ensures units { IfOk result (λ rows. All (IsUnitRow S.ring n) rows.items) }
     ensures count { IfOk result (λ rows. length rows.items ≡ n) }
-    ensures order { IfOk result (λ rows. (k : ℕ) (d : List S) → k < n → slice_index_or rows.items k d ≡ slice_set (bottom S.ring n) (n - 1 - k) S.ring.one) }
+    ensures order { IfOk result (λ rows. (k : ℕ) (d : List S) → k < n →
+        slice_index_or rows.items k d ≡ slice_set (bottom S.ring n) (n - 1 - k) S.ring.one) }
 {
     let mut rows = Vec::new(alloc);
     for k in 0..n {
@@ -58,7 +59,8 @@ pub fn unit_sides<S: Scalar>(
     requires at_most { n ≤ 64 }
     requires count { length rows.now ≡ n }
     requires wide { AreWide n rows.now }
-    requires order { (k : ℕ) (d : List S) → k < n → slice_index_or rows.now k d ≡ slice_set (bottom S.ring n) (n - 1 - k) S.ring.one }
+    requires order { (k : ℕ) (d : List S) → k < n →
+        slice_index_or rows.now k d ≡ slice_set (bottom S.ring n) (n - 1 - k) S.ring.one }
     ensures { IfOk result (λ sides. AreCarried S.ring n [] rows.now sides.items) }
 {
     let mut sides = Vec::with_capacity(alloc, rows.len())?;

@@ -6,3 +6,4 @@ pub mod KeptTyping
 pub mod KeptRow
 pub mod SlotListing
 pub mod NewRow
+pub mod Putting

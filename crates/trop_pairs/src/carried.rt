@@ -1,6 +1,8 @@
 // An extreme row with what is carried beside it.
-ghost use Rattle.std.specs.Prelude.{◌≡◌, ◌⊎◌, ◌↔◌, ℕ, IfOk};
-ghost use Rattle.trop_pruning.specs.Kept.{HasSlotAdded, HasEdgeAdded};
+ghost use Rattle.std.specs.Prelude.{◌≡◌, ◌⊎◌, ◌↔◌, ℕ, IfOk, OnOk, OnErr};
+ghost use Rattle.trop_pruning.specs.Slots.{Slot};
+ghost use Rattle.trop_pruning.specs.Judged.{Side};
+ghost use Rattle.trop_pruning.specs.Kept.{HasEdgeAdded, IsPut};
 ghost use Rattle.trop_criterion.specs.Hypergraphs.{Has};
 
 use crate::slot::RowSlot;
@@ -94,18 +96,64 @@ impl<S: Scalar> Carried<S> {
         })
     }
 
-    /// With one more slot, which gives no hyperedge.
-    pub fn with_slot(self, slot: RowSlot<S>) -> Result<Carried<S>, AllocError>
-        ensures { IfOk result (HasSlotAdded self slot) }
-    {
-        let mut slots = self.slots;
-        slots.push(slot)?;
+    /// A row without an entry, with nothing beside it.
+    pub fn blank(alloc: Global) -> Result<Carried<S>, AllocError> {
         Ok(Carried {
-            row: self.row,
-            words: self.words,
-            slots,
-            places: self.places,
+            row: Row::bottom(alloc, 0)?,
+            words: RowWords {
+                support: Mask::empty(),
+                types: Mask::empty(),
+                cover: Mask::empty(),
+            },
+            slots: Vec::new(alloc),
+            places: Vec::new(alloc),
         })
+    }
+
+    /// Puts one more slot behind the others. `take_back` undoes it, and `set_words` gives the row the words that belong
+    /// to it.
+    pub fn put(&mut self, slot: RowSlot<S>) -> Result<(), AllocError>
+        ensures ok { OnOk result (IsPut self.old slot self.new) }
+        ensures err { OnErr result (self.new ≡ self.old) }
+    {
+        if slot.head.is_empty() {
+            self.slots.push(slot)?;
+            return Ok(());
+        }
+        self.places.push(self.slots.len())?;
+        if let Err(refused) = self.slots.push(slot) {
+            let _place = self.places.pop();
+            return Err(AllocError::from(refused));
+        }
+        Ok(())
+    }
+
+    /// Takes the last slot off again.
+    pub fn take_back(&mut self)
+        ensures { (old : Side S) (slot : Slot S) → IsPut old slot self.old → self.new ≡ old }
+    {
+        if let Some(slot) = self.slots.pop() {
+            if !slot.head.is_empty() {
+                let _place = self.places.pop();
+            }
+        }
+    }
+
+    /// Has these types, and these nodes in the cover beside those that are there.
+    pub fn set_words(&mut self, types: Mask, alone: Mask)
+        ensures row { self.new.row ≡ self.old.row }
+        ensures support { self.new.words.support ≡ self.old.words.support }
+        ensures types { self.new.words.types ≡ types }
+        ensures cover { (u : ℕ) → (Has self.new.words.cover u → ⊥) →
+            (Has self.old.words.cover u → ⊥) × (Has alone u → ⊥) }
+        ensures slots { self.new.slots ≡ self.old.slots }
+        ensures places { self.new.places ≡ self.old.places }
+    {
+        self.words = RowWords {
+            support: self.words.support,
+            types,
+            cover: self.words.cover.union(alone),
+        };
     }
 
     /// With one more slot, which gives a hyperedge that leaves these nodes alone. The types are these from then on.

@@ -19,7 +19,8 @@ use trop_hyper::Mask;
 use trop_row::{Ineq, Row, System};
 use trop_scalar::Scalar;
 
-/// The slot of an inequality at what a kept and a dropped row give, from that at the kept row, the left sum of the dropped one
+/// The slot of an inequality at what a kept and a dropped row give, from that at the kept row, the left sum of the
+/// dropped one
 /// and the coordinates there that reach it.
 pub fn new_slot<S: Scalar>(kept: RowSlot<S>, left: S, reached: Mask) -> RowSlot<S>
     requires { S.ring.size left + S.ring.size kept.sum ≤ 2 ^ 62 }
@@ -34,7 +35,8 @@ pub fn new_slot<S: Scalar>(kept: RowSlot<S>, left: S, reached: Mask) -> RowSlot<
     }
 }
 
-/// The new row of a pair, in normal form, with all that is carried beside it. `left` and `right` are the multiples of the two
+/// The new row of a pair, in normal form, with all that is carried beside it. `left` and `right` are the multiples of
+/// the two
 /// rows that it is the sum of, and `slot` is that of the inequality at it.
 pub fn carry<S: Scalar>(
     alloc: Global,

@@ -31,8 +31,10 @@ fn two_open(room: &Hyper, looks: &mut Looks) -> bool
     }
 }
 
-/// The types of what a pair gives, none where it is not extreme. `slot` is that of the inequality there. What `room` held
-/// before is of no account; it is left with the tangent hyperedges of what the pair gives, each with a tail. At least one look
+/// The types of what a pair gives, none where it is not extreme. `slot` is that of the inequality there. What `room`
+/// held
+/// before is of no account; it is left with the tangent hyperedges of what the pair gives, each with a tail. At least
+/// one look
 /// is made.
 pub fn judge<S: Scalar>(
     room: &mut Hyper,
@@ -48,8 +50,12 @@ pub fn judge<S: Scalar>(
     requires pair { IsPair S.ring system.now.n system.now.inequalities ineq.now first.now second.now left right slot }
     requires left_size { All (λ slot. S.ring.size left + S.ring.size slot.sum ≤ 2 ^ 62) first.now.slots }
     requires right_size { All (λ slot. S.ring.size right + S.ring.size slot.sum ≤ 2 ^ 62) second.now.slots }
-    ensures types { IfOk result (IsJudged S.ring system.now.n system.now.inequalities ineq.now first.now.row second.now.row) }
-    ensures edges { OnOk result ((x : List S) → Normalises S.ring (mixed S.ring ineq.now.left ineq.now.right first.now.row second.now.row) x → Solves S.ring system.now.n (system.now.inequalities ++ ineq.now ∷ []) x → HaveEdges S.ring (system.now.inequalities ++ ineq.now ∷ []) x room.new.edges) }
+    ensures types { IfOk result (IsJudged S.ring system.now.n system.now.inequalities ineq.now first.now.row
+        second.now.row) }
+    ensures edges { OnOk result ((x : List S) → Normalises S.ring
+        (mixed S.ring ineq.now.left ineq.now.right first.now.row second.now.row) x →
+        Solves S.ring system.now.n (system.now.inequalities ++ ineq.now ∷ []) x →
+        HaveEdges S.ring (system.now.inequalities ++ ineq.now ∷ []) x room.new.edges) }
     ensures tails { OnOk result (All (λ edge. (j : ℕ) × Has edge.tail j) room.new.edges) }
     ensures counted { OnOk result (min (looks.old + 1) (2 ^ 62) ≤ looks.new) }
     ensures kept { looks.old ≤ looks.new }

@@ -7,6 +7,7 @@ ghost use Rattle.trop_pruning.specs.PairEdges.{HasEdge, edge_of};
 ghost use Rattle.trop_pruning.specs.Open.{HoldsBack};
 ghost use Rattle.trop_pruning.specs.Pairs.{AreTypes};
 ghost use Rattle.trop_pruning.specs.Judged.{IsSide};
+ghost use Rattle.trop_pruning.specs.Kept.{IsAddition};
 
 use crate::carried::Carried;
 use crate::filling::fill_pair;
@@ -17,7 +18,18 @@ use trop_hyper::{Hyper, Looks, Mask};
 use trop_row::{Ineq, System};
 use trop_scalar::Scalar;
 
-/// The node that the hyperedge leaves alone, if it has one: its tail where this has one member and the head has another.
+/// What one more inequality puts beside a row: its slot there and, where this gives a hyperedge, the types of the row
+/// from then
+/// on and the nodes that the hyperedge leaves alone.
+#[derive(Clone, Copy)]
+pub struct Addition<S> {
+    pub slot: RowSlot<S>,
+    pub types: Mask,
+    pub alone: Mask,
+}
+
+/// The node that the hyperedge leaves alone, if it has one: its tail where this has one member and the head has
+/// another.
 pub fn left_alone(tail: Mask, head: Mask) -> Mask
     requires some { (j : ℕ) × Has tail j }
     ensures { (u : ℕ) → (Has result u → ⊥) → HoldsBack u (record { tail = tail; head = head }) }
@@ -35,7 +47,8 @@ pub fn left_alone(tail: Mask, head: Mask) -> Mask
     }
 }
 
-/// The types of a kept row after one more inequality, by its slot there.
+/// The types of a kept row after one more inequality, by its slot there. `room` is lent: it holds any hyperedges
+/// afterwards.
 pub fn types_with<S: Scalar>(
     room: &mut Hyper,
     system: &System<S>,
@@ -67,30 +80,35 @@ pub fn types_with<S: Scalar>(
     }
 }
 
-/// A kept row after one more inequality, by its slot there.
-pub fn keep<S: Scalar>(
+/// What is put beside a row that is kept, by its slot at the inequality. `room` is lent: it holds any hyperedges
+/// afterwards.
+pub fn addition_of<S: Scalar>(
     room: &mut Hyper,
     system: &System<S>,
     ineq: &Ineq<S>,
-    side: Carried<S>,
+    side: &Carried<S>,
     slot: RowSlot<S>,
     looks: &mut Looks,
-) -> Result<Carried<S>, AllocError>
+) -> Result<Addition<S>, AllocError>
     requires inside { All (IsIn system.now.n) system.now.inequalities }
     requires last { IsIn system.now.n ineq.now }
-    requires side { IsSide S.ring system.now.n system.now.inequalities side }
-    requires some { (t : ℕ) × Has side.words.types t }
-    requires holds { IsTrueAt S.ring ineq.now side.row }
-    requires slot { IsSlot S.ring side.row ineq.now slot }
-    requires sizes { All (λ slot. S.ring.size S.ring.one + S.ring.size slot.sum ≤ 2 ^ 62) side.slots }
-    ensures side { IfOk result (IsSide S.ring system.now.n (system.now.inequalities ++ ineq.now ∷ [])) }
-    ensures row { IfOk result (λ kept. kept.row ≡ side.row) }
+    requires side { IsSide S.ring system.now.n system.now.inequalities side.now }
+    requires some { (t : ℕ) × Has side.now.words.types t }
+    requires holds { IsTrueAt S.ring ineq.now side.now.row }
+    requires slot { IsSlot S.ring side.now.row ineq.now slot }
+    requires sizes { All (λ slot. S.ring.size S.ring.one + S.ring.size slot.sum ≤ 2 ^ 62) side.now.slots }
+    ensures addition { IfOk result (λ found. IsAddition S.ring system.now.n system.now.inequalities ineq.now side.now
+        found.slot found.types found.alone) }
     ensures looks { looks.old ≤ looks.new }
 {
     if slot.head.is_empty() {
-        return side.with_slot(slot);
+        return Ok(Addition {
+            slot,
+            types: side.types(),
+            alone: Mask::empty(),
+        });
     }
-    let types = types_with(room, system, ineq, &side, slot, looks)?;
+    let types = types_with(room, system, ineq, side, slot, looks)?;
     let alone = left_alone(slot.tail, slot.head);
-    side.with_edge(slot, types, alone)
+    Ok(Addition { slot, types, alone })
 }

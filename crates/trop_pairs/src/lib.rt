@@ -1,4 +1,5 @@
-//! What the double description carries beside a row, and how a pair of rows is judged by it without a look at a coordinate:
+//! What the double description carries beside a row, and how a pair of rows is judged by it without a look at a
+//! coordinate:
 //! a test on words that rejects most pairs, and the tangent hypergraph of what a pair gives.
 #![tactic(auto)]
 
@@ -18,7 +19,7 @@ pub use carrying::{carry, new_slot};
 pub use filling::fill_pair;
 pub use graph::add_all;
 pub use judging::judge;
-pub use keeping::{keep, left_alone, types_with};
+pub use keeping::{Addition, addition_of, left_alone, types_with};
 pub use merging::{Slots, cover_of, merge_all};
 pub use reading::{is_zero, reaching, slot_of};
 pub use slot::{RowSlot, merged};

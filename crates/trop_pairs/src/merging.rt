@@ -44,7 +44,8 @@ pub fn merge_all<S: Scalar>(
     requires lengths { length first.now ≡ length second.now }
     requires left_size { All (λ slot. S.ring.size left + S.ring.size slot.sum ≤ 2 ^ 62) first.now }
     requires right_size { All (λ slot. S.ring.size right + S.ring.size slot.sum ≤ 2 ^ 62) second.now }
-    ensures { IfOk result (λ all. AreMergedTo S.ring left right first.now second.now (length first.now) all.slots.items all.places.items) }
+    ensures { IfOk result (λ all. AreMergedTo S.ring left right first.now second.now
+        (length first.now) all.slots.items all.places.items) }
 {
     let mut all = Slots {
         slots: Vec::with_capacity(alloc, first.len() + 1)?,

@@ -4,4 +4,5 @@ use Rattle.trop_dd.specs.Units.{IsUnitRow}
 use Rattle.trop_dd.proofs.dd.Dd.new.Goals as goal
 
 pub returns-clause-units : goal.returns-clause-units
-returns-clause-units g c = subst (All (IsUnitRow g.S.Scalar.ring c.args.n)) (sym c.from_rows.ensures.rows) c.in_ok-rows.ensures.units
+returns-clause-units g c = subst (All (IsUnitRow g.S.Scalar.ring c.args.n))
+    (sym c.from_rows.ensures.rows) c.in_ok-rows.ensures.units
