@@ -1,0 +1,3 @@
+// Tests by tables.
+mod reading;
+mod zeros;

@@ -1,0 +1,124 @@
+// Analyses by the domain that knows whether the first variable is zero; what is wanted is written by hand.
+use super::reading::graph_of;
+use crate::{FirstZero, Known};
+use dom_iter::{Family, analyse};
+use std::alloc::Global;
+use std::test::Fail;
+
+// A program, the delay and the passes of the narrowing, the passes of the ascent, and for each point `0` where the
+// first variable is zero, `?` where it may be any number.
+struct Case {
+    program: &'static str,
+    delay: u32,
+    narrow: u32,
+    passes: u64,
+    known: &'static str,
+}
+
+const CASES: [Case; 6] = [
+    Case {
+        program: "vars ls n ld; assume ls >= 0; ld := 0; while ld < n && ld < ls { ld :=
+ld + 1; } if ld >= n { havoc ld; assume ld >= n; } assert min(ls, n) =
+min(ld, n);",
+        delay: 2,
+        narrow: 0,
+        passes: 2,
+        known: "??????????",
+    },
+    Case {
+        program: "vars ld n ls; assume ls >= 0; ld := 0; while ld < n && ld < ls { ld :=
+ld + 1; } if ld >= n { havoc ld; assume ld >= n; } assert min(ls, n) =
+min(ld, n);",
+        delay: 2,
+        narrow: 0,
+        passes: 3,
+        known: "??????????",
+    },
+    Case {
+        program: "vars ld n ls; assume ls >= 0; ld := 0; while ld < n && ld < ls { ls :=
+ls - 1; } if ld >= n { havoc ld; assume ld >= n; } assert min(ls, n) =
+min(ld, n);",
+        delay: 0,
+        narrow: 2,
+        passes: 2,
+        known: "??00000???",
+    },
+    Case {
+        program: "vars x; x := 0; while ? { x := x + 1; x := 0; } skip;",
+        delay: 0,
+        narrow: 1,
+        passes: 2,
+        known: "?00?00",
+    },
+    Case {
+        program: "vars x; x := 0; while ? { x := x + 1; } x := 0; skip;",
+        delay: 1,
+        narrow: 1,
+        passes: 3,
+        known: "????00",
+    },
+    Case {
+        program: "vars;",
+        delay: 1000,
+        narrow: 100,
+        passes: 1,
+        known: "?",
+    },
+];
+
+fn letter(known: Known) -> char {
+    match known {
+        Known::Nothing => '-',
+        Known::Zero => '0',
+        Known::Anything => '?',
+    }
+}
+
+// Whether these are the values of the points.
+fn agrees(family: &Family<FirstZero>, case: &Case) -> bool {
+    if family.passes != case.passes {
+        return false;
+    }
+    let mut left = case.known.chars();
+    for value in &family.values {
+        if left.next() != Some(letter(value.known())) {
+            return false;
+        }
+    }
+    left.next().is_none()
+}
+
+fn passes_case(alloc: Global, case: &Case) -> Result<bool, Fail> {
+    let graph = match graph_of(alloc, case.program.as_bytes())? {
+        Some(graph) => graph,
+        None => return Ok(false),
+    };
+    let delay = case.delay;
+    let narrow = case.narrow;
+    if graph.vars() > 63 {
+        return Ok(false);
+    }
+    if delay > 1000 {
+        return Ok(false);
+    }
+    if narrow > 100 {
+        return Ok(false);
+    }
+    match analyse::<FirstZero>(alloc, &graph, delay, narrow) {
+        Ok(family) => Ok(agrees(&family, case)),
+        Err(_) => Ok(false),
+    }
+}
+
+#[test]
+fn first_variables(rt: HostRuntime) -> Result<(), Fail> {
+    let mut failed = false;
+    for case in &CASES {
+        if !passes_case(rt.alloc(), case)? {
+            println!(rt; "{}", case.program)?;
+            failed = true;
+        }
+    }
+    assert!(rt; !failed);
+    Ok(())
+}
