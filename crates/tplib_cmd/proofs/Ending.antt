@@ -3,13 +3,15 @@ use Rattle.std.proofs.Common.{◌≡◌, ◌≤◌, ◌+◌, inl, inr, ℕ, Bool
 use Rattle.std.proofs.lemmas.List.{append-nil, length-append}
 use Rattle.std.specs.Io.KnownBytes.{Consumes, IsAtEnd}
 use Rattle.trop_io.specs.Faults.{Rose}
+use Rattle.trop_words.specs.Words.{IsSpelled}
 use Rattle.trop_words.specs.declared.command.Command.{Command}
 use Rattle.trop_words.specs.declared.command.Command.TheVariants.{Reduce, Ext, Int, Tangent, Include, Equal, Join, Meet, Forget, Trace, Analyze, Check, Sample}
 use Rattle.trop_text.specs.declared.fault.Fault.{Fault}
 use Rattle.tplib_reply.specs.Meaning.{IsRunnable, OverLimit, OutOfRange}
+use Rattle.tplib_poly.proofs.Late.{forget_apart}
 use Rattle.tplib_cmd.specs.declared.status.Status.{Status}
 use Rattle.tplib_cmd.specs.declared.status.Status.TheVariants.{Done, No, BadWords, Text, TooLong, Limit, Range, ReadFault, WriteFault, NoMemory}
-use Rattle.tplib_cmd.specs.Commands.{Said, reads, meaning_of}
+use Rattle.tplib_cmd.specs.Commands.{IsInRange, Said, reads, meaning_of}
 use Rattle.tplib_cmd.specs.Streams.{Input, IsInput, IsInputInPart, IsTooLong, IsReadFault, HasInput, longest_input}
 use Rattle.tplib_cmd.specs.Ends.{Run, Ends, EndsEarly, EndsWith, IsInOrder, IsReady, IsAnswer}
 
@@ -60,12 +62,12 @@ faulty : (command : Command) (bytes : List ℕ) (fault : Fault) (said : Said com
 faulty Reduce bytes fault said h s = h.first.spelled said s
 faulty Ext bytes fault said h s = h.first.spelled said s
 faulty Tangent bytes fault said h s = h.first.spelled said s
-faulty Int bytes fault said h s = h
-faulty Include bytes fault said h s = h
-faulty Equal bytes fault said h s = h
-faulty Join bytes fault said h s = h
-faulty Meet bytes fault said h s = h
-faulty (Forget var) bytes fault said h s = h
+faulty Int bytes fault said h s = h.first.spelled said s
+faulty Include bytes fault said h s = h.first.spelled said s
+faulty Equal bytes fault said h s = h.first.spelled said s
+faulty Join bytes fault said h s = h.first.spelled said s
+faulty Meet bytes fault said h s = h.first.spelled said s
+faulty (Forget var) bytes fault said h s = forget_apart var.now bytes fault said h s
 faulty (Trace turns) bytes fault said h s = h
 faulty (Analyze mode delay narrow) bytes fault said h s = h
 faulty Check bytes fault said h s = h
@@ -100,3 +102,25 @@ pub ends_in_order : (words : List (List ℕ)) (run : Run) (status : Status) → 
     IsInOrder words run → IsAnswer status
 ends_in_order words run status (inl h) order = ended status h.0 run order.bytes (order.each h.0 h.1) order.calm_out h.2
 ends_in_order words run status (inr h) order = absurd (h.1 order.some.0 order.some.1)
+
+-- words spell no number out of its range
+pub spelled_in_range : (words : List (List ℕ)) (command : Command) → IsSpelled words command → IsInRange command
+spelled_in_range words Reduce h = tt
+spelled_in_range words Ext h = tt
+spelled_in_range words Int h = tt
+spelled_in_range words Tangent h = tt
+spelled_in_range words Include h = tt
+spelled_in_range words Equal h = tt
+spelled_in_range words Join h = tt
+spelled_in_range words Meet h = tt
+spelled_in_range words (Forget var) h = tt
+spelled_in_range words (Trace turns) h = h.0
+spelled_in_range words (Analyze mode delay narrow) h = (h.0, h.1)
+spelled_in_range words Check h = tt
+spelled_in_range words (Sample seed vars rows) h = (h.0, h.1, h.2, h.3)
+
+-- a command that does not read has no bytes
+pub no_bytes : (b : Bool) (before after : Input) (bytes : List ℕ) → IsInput b before after bytes → b ≡ false →
+    bytes ≡ []
+no_bytes true before after bytes h e = absurd (let f : true ≡ false = e in cc)
+no_bytes false before after bytes h e = h.1

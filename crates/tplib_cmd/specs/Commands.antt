@@ -1,14 +1,20 @@
 -- The commands that run, by their words: whether they read, and what they mean.
-use Rattle.std.specs.Prelude.{ℕ, Bool, true, false, List}
+use Rattle.std.specs.Prelude.{◌≤◌, ℕ, Bool, true, false, List}
 use Rattle.trop_words.specs.Words.{IsSpelled}
 use Rattle.trop_words.specs.declared.command.Command.{Command}
 use Rattle.trop_words.specs.declared.command.Command.TheVariants.{Reduce, Ext, Int, Tangent, Include, Equal, Join, Meet, Forget, Trace, Analyze, Check, Sample}
 use Rattle.trop_files.specs.Generators.{GeneratorFile}
 use Rattle.trop_files.specs.InequalityFiles.{InequalityFile}
+use Rattle.trop_files.specs.PairFiles.{TwoFile}
 use Rattle.trop_files.specs.AtFiles.{AtText}
 use Rattle.tplib_reply.specs.Meaning.{Meaning, never}
 use Rattle.tplib_cones.specs.Reduce.{reduce_meaning}
 use Rattle.tplib_cones.specs.Ext.{ext_meaning}
+use Rattle.tplib_poly.specs.declared.pair.PairCommand.TheVariants as pair
+use Rattle.tplib_poly.specs.Int.{int_meaning}
+use Rattle.tplib_poly.specs.Pairs.{pair_meaning}
+use Rattle.tplib_poly.specs.Forget.{forget_meaning}
+use Rattle.tplib_poly.specs.Sample.{Numbers, sample_meaning}
 use Rattle.tplib_tangent.specs.Tangent.{tangent_meaning}
 
 -- The command is built. Words of one that is not are bad words.
@@ -16,21 +22,37 @@ abbrev pub IsBuilt : Command → Type 0
 IsBuilt Reduce = Unit {0}
 IsBuilt Ext = Unit {0}
 IsBuilt Tangent = Unit {0}
-IsBuilt Int = ⊥
-IsBuilt Include = ⊥
-IsBuilt Equal = ⊥
-IsBuilt Join = ⊥
-IsBuilt Meet = ⊥
-IsBuilt (Forget var) = ⊥
+IsBuilt Int = Unit {0}
+IsBuilt Include = Unit {0}
+IsBuilt Equal = Unit {0}
+IsBuilt Join = Unit {0}
+IsBuilt Meet = Unit {0}
+IsBuilt (Forget var) = Unit {0}
 IsBuilt (Trace turns) = ⊥
 IsBuilt (Analyze mode delay narrow) = ⊥
 IsBuilt Check = ⊥
-IsBuilt (Sample seed vars rows) = ⊥
+IsBuilt (Sample seed vars rows) = Unit {0}
 
 -- the words spell this command, and it is built
 pub record IsCommand (words : List (List ℕ)) (command : Command) : Type 0 where
   pub spelled : IsSpelled words command
   pub built : IsBuilt command
+
+-- the numbers of a command are in their ranges; no words spell others
+abbrev pub IsInRange : Command → Type 0
+IsInRange Reduce = Unit {0}
+IsInRange Ext = Unit {0}
+IsInRange Int = Unit {0}
+IsInRange Tangent = Unit {0}
+IsInRange Include = Unit {0}
+IsInRange Equal = Unit {0}
+IsInRange Join = Unit {0}
+IsInRange Meet = Unit {0}
+IsInRange (Forget var) = Unit {0}
+IsInRange (Trace turns) = turns ≤ 10000
+IsInRange (Analyze mode delay narrow) = (delay ≤ 1000) × (narrow ≤ 100)
+IsInRange Check = Unit {0}
+IsInRange (Sample seed vars rows) = (seed ≤ 2147483647) × (1 ≤ vars) × (vars ≤ 31) × (rows ≤ 1024)
 
 -- whether the command reads its input; one that does not leaves it untouched
 abbrev pub reads : Command → Bool
@@ -53,16 +75,16 @@ abbrev pub Said : Command → Type 0
 Said Reduce = GeneratorFile
 Said Ext = InequalityFile
 Said Tangent = AtText
-Said Int = ⊥
-Said Include = ⊥
-Said Equal = ⊥
-Said Join = ⊥
-Said Meet = ⊥
-Said (Forget var) = ⊥
+Said Int = GeneratorFile
+Said Include = TwoFile
+Said Equal = TwoFile
+Said Join = TwoFile
+Said Meet = TwoFile
+Said (Forget var) = GeneratorFile
 Said (Trace turns) = ⊥
 Said (Analyze mode delay narrow) = ⊥
 Said Check = ⊥
-Said (Sample seed vars rows) = ⊥
+Said (Sample seed vars rows) = Numbers
 
 -- the meaning of a command that is not built: no bytes say anything
 abbrev unbuilt : Meaning ⊥
@@ -72,13 +94,13 @@ abbrev pub meaning_of : (command : Command) → Meaning (Said command)
 meaning_of Reduce = reduce_meaning
 meaning_of Ext = ext_meaning
 meaning_of Tangent = tangent_meaning
-meaning_of Int = unbuilt
-meaning_of Include = unbuilt
-meaning_of Equal = unbuilt
-meaning_of Join = unbuilt
-meaning_of Meet = unbuilt
-meaning_of (Forget var) = unbuilt
+meaning_of Int = int_meaning
+meaning_of Include = pair_meaning pair.Include
+meaning_of Equal = pair_meaning pair.Equal
+meaning_of Join = pair_meaning pair.Join
+meaning_of Meet = pair_meaning pair.Meet
+meaning_of (Forget var) = forget_meaning var.now
 meaning_of (Trace turns) = unbuilt
 meaning_of (Analyze mode delay narrow) = unbuilt
 meaning_of Check = unbuilt
-meaning_of (Sample seed vars rows) = unbuilt
+meaning_of (Sample seed vars rows) = sample_meaning seed vars rows

@@ -1,11 +1,12 @@
 //! The answer of each command, by its layer.
-ghost use Rattle.std.specs.Prelude.{◌≤◌, ◌^◌, length, IfOk, IfErr};
+ghost use Rattle.std.specs.Prelude.{◌≡◌, ◌≤◌, false, [], ◌^◌, length, IfOk, IfErr};
 ghost use Rattle.trop_words.specs.declared.command.Command.{Command};
 ghost use Rattle.tplib_reply.specs.Meaning.{IsReply, IsRefused};
-ghost use Rattle.tplib_cmd.specs.Commands.{IsBuilt, meaning_of};
+ghost use Rattle.tplib_cmd.specs.Commands.{IsBuilt, IsInRange, reads, meaning_of};
 
 use std::alloc::Global;
 use tplib_cones::{ext_reply, reduce_reply};
+use tplib_poly::{PairCommand, forget_reply, int_reply, pair_reply, sample_reply};
 use tplib_reply::{Refusal, Reply};
 use tplib_tangent::tangent_reply;
 use trop_words::Command;
@@ -13,6 +14,8 @@ use trop_words::Command;
 // The answer of the command to the bytes of its input.
 pub(crate) fn answer(alloc: Global, command: Command<'_>, bytes: &[u8]) -> Result<Reply, Refusal>
     requires built { IsBuilt command }
+    requires range { IsInRange command }
+    requires input { reads command ≡ false → bytes.now ≡ [] }
     requires short { length bytes.now ≤ 2 ^ 31 }
     ensures reply { IfOk result (IsReply (meaning_of command.entry) bytes.now) }
     ensures refused { IfErr result (IsRefused (meaning_of command.entry) bytes.now) }
@@ -21,15 +24,13 @@ pub(crate) fn answer(alloc: Global, command: Command<'_>, bytes: &[u8]) -> Resul
         Command::Reduce => reduce_reply(alloc, bytes),
         Command::Ext => ext_reply(alloc, bytes),
         Command::Tangent => tangent_reply(alloc, bytes),
-        Command::Int
-        | Command::Include
-        | Command::Equal
-        | Command::Join
-        | Command::Meet
-        | Command::Forget { .. }
-        | Command::Trace { .. }
-        | Command::Analyze { .. }
-        | Command::Check
-        | Command::Sample { .. } => unreachable!(),
+        Command::Int => int_reply(alloc, bytes),
+        Command::Include => pair_reply(alloc, PairCommand::Include, bytes),
+        Command::Equal => pair_reply(alloc, PairCommand::Equal, bytes),
+        Command::Join => pair_reply(alloc, PairCommand::Join, bytes),
+        Command::Meet => pair_reply(alloc, PairCommand::Meet, bytes),
+        Command::Forget { var } => forget_reply(alloc, var, bytes),
+        Command::Sample { seed, vars, rows } => sample_reply(alloc, seed, vars, rows),
+        Command::Trace { .. } | Command::Analyze { .. } | Command::Check => unreachable!(),
     }
 }

@@ -21,7 +21,10 @@ pub(crate) fn read_command(words: &[String]) -> Option<Command<'_>>
 fn is_built(command: Command<'_>) -> bool
     ensures { IsTrue result ↔ IsBuilt command.entry }
 {
-    matches!(command, Command::Reduce | Command::Ext | Command::Tangent)
+    !matches!(
+        command,
+        Command::Trace { .. } | Command::Analyze { .. } | Command::Check
+    )
 }
 
 // Whether the command reads its input.

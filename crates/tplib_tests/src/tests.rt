@@ -11,6 +11,8 @@ mod groups;
 mod ineqs_answers;
 mod ineqs_faults;
 mod laws;
+mod op_answers;
 mod pairs;
 mod plain;
 mod runs;
+mod sample_answers;

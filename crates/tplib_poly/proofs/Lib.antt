@@ -1,0 +1,11 @@
+pub mod Lifted
+pub mod Refused
+pub mod Bounded
+pub mod Same
+pub mod Compared
+pub mod Pairs
+pub mod Forgotten
+pub mod Sampled
+pub mod Largest
+pub mod Late
+pub mod ForgetReplies

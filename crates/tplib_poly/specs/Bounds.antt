@@ -1,0 +1,25 @@
+-- The external list of a cone: the file of it, and where it stops.
+use Rattle.std.specs.Prelude.{◌≡◌, ◌↔◌, ◌+◌, ℕ, List, length}
+use Rattle.trop_theory.specs.Semiring.{Semiring}
+use Rattle.trop_theory.specs.Numbers.{Numbering}
+use Rattle.trop_theory.specs.Inequalities.{Inequality, Solves}
+use Rattle.trop_theory.specs.Canonical.{IsCanonical}
+use Rattle.trop_duality.specs.External.{IsExternal}
+use Rattle.trop_duality.specs.PolarStops.{IsPolarStop}
+use Rattle.trop_spelling.specs.declared.ring_kind.RingKind.{RingKind}
+use Rattle.trop_files.specs.PrintedFiles.{printed_ineqs}
+
+-- The text is the file of the external list of the cone. The solutions of the inequalities that it prints are just the
+-- cone.
+pub record IsBoundsFile {V : Type 0} (kind : RingKind) (R : Semiring V) (N : Numbering V) (names : List (List ℕ))
+    (cone : List V → Type 0) (text : List ℕ) : Type 0 where
+  pub bounds : List (Inequality V)
+  pub external : IsExternal R (length names + 1) cone bounds
+  pub solved : (x : List V) → cone x ↔ Solves R (length names + 1) bounds x
+  pub printed : text ≡ printed_ineqs kind N names bounds
+
+-- the external list of the cone stops at the polar of coordinate i of the first k rows of its canonical list
+pub record IsBoundsStop {V : Type 0} (R : Semiring V) (n : ℕ) (cone : List V → Type 0) (i k : ℕ) : Type 0 where
+  pub rows : List (List V)
+  pub canonical : IsCanonical R cone rows
+  pub stop : IsPolarStop R n rows i k

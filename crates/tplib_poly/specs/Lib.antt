@@ -1,0 +1,9 @@
+pub mod InRing
+pub mod Refusals
+pub mod Bounds
+pub mod Outside
+pub mod Pairs
+pub mod Cones
+pub mod Int
+pub mod Forget
+pub mod Sample
