@@ -1,0 +1,16 @@
+pub mod Bounds
+pub mod Matrices
+pub mod Closed
+pub mod Shortest
+pub mod Adding
+pub mod Forgetting
+pub mod Assigning
+pub mod Joining
+pub mod Limits
+pub mod Zones
+pub mod Widening
+pub mod Width
+pub mod Embedding
+pub mod Claims
+pub mod Domain
+pub mod Relations
