@@ -62,7 +62,8 @@ faulty : (command : Command) (bytes : List ℕ) (fault : Fault) (said : Said com
 faulty Reduce bytes fault said h s = h.first.spelled said s
 faulty Ext bytes fault said h s = h.first.spelled said s
 faulty Tangent bytes fault said h s = h.first.spelled said s
-faulty Int bytes fault said h s = h.first.spelled said s
+faulty (Int false) bytes fault said h s = h.first.spelled said s
+faulty (Int true) bytes fault said h s = h.first.spelled said s
 faulty Include bytes fault said h s = h.first.spelled said s
 faulty Equal bytes fault said h s = h.first.spelled said s
 faulty Join bytes fault said h s = h.first.spelled said s
@@ -107,7 +108,7 @@ ends_in_order words run status (inr h) order = absurd (h.1 order.some.0 order.so
 pub spelled_in_range : (words : List (List ℕ)) (command : Command) → IsSpelled words command → IsInRange command
 spelled_in_range words Reduce h = tt
 spelled_in_range words Ext h = tt
-spelled_in_range words Int h = tt
+spelled_in_range words (Int lean) h = tt
 spelled_in_range words Tangent h = tt
 spelled_in_range words Include h = tt
 spelled_in_range words Equal h = tt

@@ -15,6 +15,7 @@ use Rattle.tplib_poly.specs.Int.{int_meaning}
 use Rattle.tplib_poly.specs.Pairs.{pair_meaning}
 use Rattle.tplib_poly.specs.Forget.{forget_meaning}
 use Rattle.tplib_poly.specs.Sample.{Numbers, sample_meaning}
+use Rattle.tplib_lean.specs.Lean.{lean_meaning}
 use Rattle.tplib_tangent.specs.Tangent.{tangent_meaning}
 
 -- The command is built. Words of one that is not are bad words.
@@ -22,7 +23,7 @@ abbrev pub IsBuilt : Command → Type 0
 IsBuilt Reduce = Unit {0}
 IsBuilt Ext = Unit {0}
 IsBuilt Tangent = Unit {0}
-IsBuilt Int = Unit {0}
+IsBuilt (Int lean) = Unit {0}
 IsBuilt Include = Unit {0}
 IsBuilt Equal = Unit {0}
 IsBuilt Join = Unit {0}
@@ -42,7 +43,7 @@ pub record IsCommand (words : List (List ℕ)) (command : Command) : Type 0 wher
 abbrev pub IsInRange : Command → Type 0
 IsInRange Reduce = Unit {0}
 IsInRange Ext = Unit {0}
-IsInRange Int = Unit {0}
+IsInRange (Int lean) = Unit {0}
 IsInRange Tangent = Unit {0}
 IsInRange Include = Unit {0}
 IsInRange Equal = Unit {0}
@@ -58,7 +59,7 @@ IsInRange (Sample seed vars rows) = (seed ≤ 2147483647) × (1 ≤ vars) × (va
 abbrev pub reads : Command → Bool
 reads Reduce = true
 reads Ext = true
-reads Int = true
+reads (Int lean) = true
 reads Tangent = true
 reads Include = true
 reads Equal = true
@@ -75,7 +76,7 @@ abbrev pub Said : Command → Type 0
 Said Reduce = GeneratorFile
 Said Ext = InequalityFile
 Said Tangent = AtText
-Said Int = GeneratorFile
+Said (Int lean) = GeneratorFile
 Said Include = TwoFile
 Said Equal = TwoFile
 Said Join = TwoFile
@@ -94,7 +95,8 @@ abbrev pub meaning_of : (command : Command) → Meaning (Said command)
 meaning_of Reduce = reduce_meaning
 meaning_of Ext = ext_meaning
 meaning_of Tangent = tangent_meaning
-meaning_of Int = int_meaning
+meaning_of (Int false) = int_meaning
+meaning_of (Int true) = lean_meaning
 meaning_of Include = pair_meaning pair.Include
 meaning_of Equal = pair_meaning pair.Equal
 meaning_of Join = pair_meaning pair.Join

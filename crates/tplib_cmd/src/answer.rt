@@ -6,6 +6,7 @@ ghost use Rattle.tplib_cmd.specs.Commands.{IsBuilt, IsInRange, reads, meaning_of
 
 use std::alloc::Global;
 use tplib_cones::{ext_reply, reduce_reply};
+use tplib_lean::lean_reply;
 use tplib_poly::{PairCommand, forget_reply, int_reply, pair_reply, sample_reply};
 use tplib_reply::{Refusal, Reply};
 use tplib_tangent::tangent_reply;
@@ -24,7 +25,8 @@ pub(crate) fn answer(alloc: Global, command: Command<'_>, bytes: &[u8]) -> Resul
         Command::Reduce => reduce_reply(alloc, bytes),
         Command::Ext => ext_reply(alloc, bytes),
         Command::Tangent => tangent_reply(alloc, bytes),
-        Command::Int => int_reply(alloc, bytes),
+        Command::Int { lean: false } => int_reply(alloc, bytes),
+        Command::Int { lean: true } => lean_reply(alloc, bytes),
         Command::Include => pair_reply(alloc, PairCommand::Include, bytes),
         Command::Equal => pair_reply(alloc, PairCommand::Equal, bytes),
         Command::Join => pair_reply(alloc, PairCommand::Join, bytes),

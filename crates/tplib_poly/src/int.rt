@@ -5,8 +5,7 @@ ghost use Rattle.tplib_reply.specs.Meaning.{IsReply, IsRefused};
 ghost use Rattle.tplib_poly.specs.InRing.{IsRingReply, IsRingRefusal};
 ghost use Rattle.tplib_poly.specs.Int.{int_ring, int_meaning};
 
-use crate::kept::kept_cone;
-use crate::refusal::refusal;
+use crate::bounds::bounds_of;
 use std::alloc::Global;
 use tplib_reply::{Refusal, Reply};
 use trop_files::{AnyGens, GenFile, Spelling, print_ineqs, read_gens};
@@ -36,11 +35,7 @@ fn bounds_reply<S: Spelling>(alloc: Global, file: &GenFile<S>) -> Result<Reply, 
     ensures refused { IfErr result (IsRingRefusal int_ring file.now.names S S.KIND S.ring S.numbering
         file.now.gens.rows) }
 {
-    let cone = kept_cone(alloc, &file.gens)?;
-    let bounds = match cone.external(alloc) {
-        Ok(bounds) => bounds,
-        Err(e) => return Err(refusal(e)),
-    };
+    let bounds = bounds_of(alloc, &file.gens)?;
     let text = print_ineqs(alloc, &file.names, &bounds)?;
     Ok(Reply { yes: true, text })
 }

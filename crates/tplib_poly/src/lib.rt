@@ -6,6 +6,7 @@
 //! file.
 #![tactic(auto)]
 
+mod bounds;
 mod compare;
 mod cone_text;
 mod cones;
@@ -17,6 +18,7 @@ mod refusal;
 mod sample;
 mod sizes;
 
+pub use bounds::bounds_of;
 pub use forget::forget_reply;
 pub use int::int_reply;
 pub use pair::{PairCommand, pair_reply};

@@ -1,5 +1,5 @@
 -- The table of the words of each command.
-use Rattle.std.specs.Prelude.{◌≡◌, ◌≤◌, ◌⊎◌, ℕ, List, [], ◌∷◌, ◌++◌, codes, decimal, Option, MatchOption}
+use Rattle.std.specs.Prelude.{◌≡◌, ◌≤◌, ◌⊎◌, ℕ, true, false, List, [], ◌∷◌, ◌++◌, codes, decimal, Option, MatchOption}
 use Rattle.trop_words.specs.declared.command.Command.{Command}
 use Rattle.trop_words.specs.declared.command.Command.TheVariants.{Reduce, Ext, Int, Tangent, Include, Equal, Join, Meet, Forget, Trace, Analyze, Check, Sample}
 use Rattle.trop_words.specs.declared.command.Mode.{Mode}
@@ -22,7 +22,8 @@ MaySpell key default n words = ((words ≡ []) × (n ≡ default)) ⊎ (words �
 abbrev pub IsSpelled : List (List ℕ) → Command → Type 0
 IsSpelled words Reduce = words ≡ codes "reduce" ∷ []
 IsSpelled words Ext = words ≡ codes "ext" ∷ []
-IsSpelled words Int = words ≡ codes "int" ∷ []
+IsSpelled words (Int false) = words ≡ codes "int" ∷ []
+IsSpelled words (Int true) = words ≡ codes "int" ∷ codes "lean=on" ∷ []
 IsSpelled words Tangent = words ≡ codes "tangent" ∷ []
 IsSpelled words Check = words ≡ codes "check" ∷ []
 IsSpelled words Include = words ≡ codes "op" ∷ codes "include" ∷ []

@@ -17,8 +17,9 @@ pub enum Command<'a> {
     Reduce,
     /// The canonical list of the solutions of inequalities.
     Ext,
-    /// The inequalities whose solutions are the combinations of rows.
-    Int,
+    /// The inequalities whose solutions are the combinations of rows; where `lean`, those that none of the others
+    /// makes spare, with rows that show it.
+    Int { lean: bool },
     /// The tangent hypergraph of a system at a row.
     Tangent,
     /// Whether one cone lies in another.

@@ -6,7 +6,8 @@
 //!
 //! | Words | Range |
 //! |---|---|
-//! | `reduce`, `ext`, `int`, `tangent`, `check` | |
+//! | `reduce`, `ext`, `tangent`, `check` | |
+//! | `int [lean=on]` | |
 //! | `op include`, `op equal`, `op join`, `op meet` | |
 //! | `op forget var=NAME` | a name of at most 32 bytes |
 //! | `trace turns=N` | 0 to 10,000 |

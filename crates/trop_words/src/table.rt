@@ -35,7 +35,7 @@ fn one<'a>(word: &'a str) -> Option<Command<'a>>
     match word {
         "reduce" => Some(Command::Reduce),
         "ext" => Some(Command::Ext),
-        "int" => Some(Command::Int),
+        "int" => Some(Command::Int { lean: false }),
         "tangent" => Some(Command::Tangent),
         "check" => Some(Command::Check),
         _ => None,
@@ -46,6 +46,7 @@ fn two<'a>(first: &'a str, second: &'a str) -> Option<Command<'a>>
     ensures { IsReading (first.now ∷ second.now ∷ []) result }
 {
     match first {
+        "int" if second == "lean=on" => Some(Command::Int { lean: true }),
         "op" => operation(second),
         "trace" => {
             let turns = key_number(second, "turns=", 0, 10_000)?;

@@ -11,10 +11,11 @@ fn words_of(alloc: Global, line: &str) -> Result<Vec<String>, Fail> {
     Ok(words)
 }
 
-const GOOD: [(&str, Command<'static>); 20] = [
+const GOOD: [(&str, Command<'static>); 21] = [
     ("reduce", Command::Reduce),
     ("ext", Command::Ext),
-    ("int", Command::Int),
+    ("int", Command::Int { lean: false }),
+    ("int lean=on", Command::Int { lean: true }),
     ("tangent", Command::Tangent),
     ("op include", Command::Include),
     ("op equal", Command::Equal),
@@ -88,12 +89,19 @@ const GOOD: [(&str, Command<'static>); 20] = [
     ),
 ];
 
-const BAD: [&str; 22] = [
+const BAD: [&str; 29] = [
     "",
     "Reduce",
     "reduce ",
     "reduce reduce",
     "--help",
+    "int lean=off",
+    "int lean=",
+    "int lean",
+    "int lean=on ",
+    "int lean=on lean=on",
+    "lean=on int",
+    "ext lean=on",
     "op",
     "op forget",
     "op forget var=",
