@@ -1,0 +1,2 @@
+pub mod Leaned
+pub mod Printing

@@ -46,6 +46,8 @@ fn list_reply<S: Spelling>(alloc: Global, file: &GenFile<S>) -> Result<Reply, Re
         Ok(list) => list,
         Err(e) => return Err(refusal(e)),
     };
+    // The slice tells what every list of rows keeps.
+    let _slice = list.rows.as_slice();
     let text = print_lean(alloc, &file.names, &list)?;
     Ok(Reply { yes: true, text })
 }

@@ -1,6 +1,7 @@
--- The external list of a cone that is kept as its canonical list: bounds_stop, no_bounds_stop, int_reply_is,
--- int_refused.
-use Rattle.std.proofs.Common.{◌≡◌, ◌+◌, ◌∙◌, ◌↔◌, ℕ, true, List, length, sym, subst}
+-- The external list of a cone that is kept as its canonical list, and the answer of `int`.
+-- Index: bounds_stop, no_bounds_stop, external_of, bounds_are, bounds_refused, bounds_small, int_reply_is, int_refused.
+use Rattle.std.proofs.Common.{◌≡◌, ◌≤◌, ◌+◌, ◌-◌, ◌*◌, ◌^◌, ◌↔◌, ℕ, true, List, length, sym, subst, arith}
+use Rattle.std.proofs.Math.Nat.{mul-le-mul_left}
 use Rattle.trop_theory.specs.Semiring.{Semiring, SemiringLaws}
 use Rattle.trop_theory.specs.Numbers.{Numbering}
 use Rattle.trop_theory.specs.Inequalities.{Inequality, Solves}
@@ -15,11 +16,13 @@ use Rattle.trop_files.specs.PrintedFiles.{printed_ineqs}
 use Rattle.trop_poly.specs.declared.error.PolyErr.{PolyErr}
 use Rattle.trop_poly.specs.declared.error.PolyErr.TheVariants.{Rows, Polar, NoMemory}
 use Rattle.trop_poly.specs.Refusals.{IsExternalRefusal}
+use Rattle.tplib_reply.specs.declared.stop.Stop.TheVariants as stops
 use Rattle.tplib_reply.specs.declared.refusal.Refusal.{Refusal}
+use Rattle.tplib_reply.specs.declared.refusal.Refusal.TheVariants as refusals
 use Rattle.tplib_reply.proofs.Unstopped.{at_rows_or_polars-none}
 use Rattle.tplib_poly.specs.InRing.{IsRingReply, IsRingRefusal}
 use Rattle.tplib_poly.specs.Refusals.{refusal_of}
-use Rattle.tplib_poly.specs.Bounds.{IsBoundsFile, IsBoundsStop}
+use Rattle.tplib_poly.specs.Bounds.{IsBoundsFile, IsBoundsStop, AreBoundsOf, IsBoundsRefusal}
 use Rattle.tplib_poly.specs.Int.{int_ring}
 
 -- what is known of the external list of a canonical list in n coordinates
@@ -51,38 +54,60 @@ module _ {V : Type 0} {R : Semiring V} (laws : SemiringLaws R) (n : ℕ) (cone :
     λ s. (represents.generates x).1 ((h.generates x).0 s),
   )
 
-module _ {V : Type 0} {R : Semiring V} (laws : SemiringLaws R) (kind : RingKind) (N : Numbering V)
-    (names : List (List ℕ)) (gens rows : List (List V)) (m : ℕ) (width : m ≡ length names + 1)
-    (given : Represents R m (IsCombination R m gens) rows) where
+  pub bounds_are : (w : ℕ) → w ≡ n → (bounds : List (Inequality V)) → Bounds R w rows bounds →
+      AreBoundsOf R n cone bounds
+  bounds_are w wide bounds told = let known = subst (λ z. Bounds R z rows bounds) wide told in record {
+    unstopped = no_bounds_stop known.unstopped;
+    external = external_of bounds known.external;
+    solved = solved_by bounds known.solutions;
+  }
+
+  refused_at : (e : PolyErr) → IsExternalRefusal R n rows e → IsBoundsRefusal R n cone (refusal_of e)
+  refused_at (Rows k) h = h
+  refused_at (Polar i k) h = bounds_stop i k h
+  refused_at NoMemory h = tt
+
+  pub bounds_refused : (w : ℕ) → w ≡ n → (e : PolyErr) (refusal : Refusal) → refusal ≡ refusal_of e →
+      IsExternalRefusal R w rows e → IsBoundsRefusal R n cone refusal
+  bounds_refused w wide e refusal is h = subst (IsBoundsRefusal R n cone) (sym is)
+      (refused_at e (subst (λ z. IsExternalRefusal R z rows e) wide h))
+
+-- how great the coefficients of the external list of small rows are
+pub bounds_small : (size rows n : ℕ) → rows ≤ 2 ^ 41 → n ≤ 64 → size ≤ 4 * rows * (n - 1) → size ≤ 2 ^ 49
+bounds_small size rows n small width few =
+    let first : 4 * rows * (n - 1) ≤ 4 * rows * 63 = mul-le-mul_left (4 * rows) (omega arith) in
+    omega (arith, first)
+
+-- ---- the answer of `int` on rows in m coordinates
+
+module _ {V : Type 0} {R : Semiring V} (kind : RingKind) (N : Numbering V) (names : List (List ℕ))
+    (gens : List (List V)) (m : ℕ) (width : m ≡ length names + 1) where
   abbrev n : ℕ
   n = length names + 1
 
-  represents : Represents R n (IsCombination R n gens) rows
-  represents = subst (λ w. Represents R w (IsCombination R w gens) rows) width given
-
-  pub int_reply_is : (w : ℕ) → w ≡ length names + 1 → (bounds : List (Inequality V)) (text : List ℕ) →
-      Bounds R w rows bounds → text ≡ printed_ineqs kind N names bounds →
+  pub int_reply_is : (bounds : List (Inequality V)) (text : List ℕ) →
+      AreBoundsOf R m (IsCombination R m gens) bounds → text ≡ printed_ineqs kind N names bounds →
       IsRingReply int_ring names V kind R N gens true text
-  int_reply_is w wide bounds text told printed =
-      let known = subst (λ z. Bounds R z rows bounds) wide told in
+  int_reply_is bounds text told printed =
+      let known = subst (λ w. AreBoundsOf R w (IsCombination R w gens) bounds) width told in
       record {
         unstopped = at_rows_or_polars-none (λ xs k. ⊥) (λ xs i k. IsBoundsStop R n (IsCombination R n xs) i k) gens
-            (λ k s. s) (no_bounds_stop laws n (IsCombination R n gens) rows represents known.unstopped);
+            (λ k s. s) known.unstopped;
         answer = record {
           bounds = bounds;
-          external = external_of laws n (IsCombination R n gens) rows represents bounds known.external;
-          solved = solved_by laws n (IsCombination R n gens) rows represents bounds known.solutions;
+          external = known.external;
+          solved = known.solved;
           printed = printed;
         };
       }
 
-  refused_at : (e : PolyErr) → IsExternalRefusal R n rows e →
-      IsRingRefusal int_ring names V kind R N gens (refusal_of e)
-  refused_at (Rows k) h = h
-  refused_at (Polar i k) h = bounds_stop laws n (IsCombination R n gens) rows represents i k h
-  refused_at NoMemory h = tt
+  int_refused_at : (refusal : Refusal) → IsBoundsRefusal R n (IsCombination R n gens) refusal →
+      IsRingRefusal int_ring names V kind R N gens refusal
+  int_refused_at (refusals.Limit (stops.Polar i k)) h = h
+  int_refused_at refusals.NoMemory h = tt
+  int_refused_at _ h = absurd h
 
-  pub int_refused : (w : ℕ) → w ≡ length names + 1 → (e : PolyErr) (refusal : Refusal) → refusal ≡ refusal_of e →
-      IsExternalRefusal R w rows e → IsRingRefusal int_ring names V kind R N gens refusal
-  int_refused w wide e refusal is h = subst (IsRingRefusal int_ring names V kind R N gens) (sym is)
-      (refused_at e (subst (λ z. IsExternalRefusal R z rows e) wide h))
+  pub int_refused : (refusal : Refusal) → IsBoundsRefusal R m (IsCombination R m gens) refusal →
+      IsRingRefusal int_ring names V kind R N gens refusal
+  int_refused refusal h = int_refused_at refusal
+      (subst (λ w. IsBoundsRefusal R w (IsCombination R w gens) refusal) width h)

@@ -24,6 +24,8 @@ pub fn bounds_of<S: Scalar>(alloc: Global, gens: &Gens<S>) -> Result<System<S>, 
     ensures refused { IfErr result (IsBoundsRefusal S.ring gens.now.n
         (IsCombination S.ring gens.now.n gens.now.rows)) }
 {
+    // The slice tells what every list of rows keeps.
+    let _slice = gens.as_slice();
     let cone = kept_cone(alloc, gens)?;
     match cone.external(alloc) {
         Ok(bounds) => Ok(bounds),
