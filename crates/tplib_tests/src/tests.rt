@@ -11,6 +11,7 @@ mod groups;
 mod ineqs_answers;
 mod ineqs_faults;
 mod laws;
+mod lean_answers;
 mod op_answers;
 mod pairs;
 mod plain;
