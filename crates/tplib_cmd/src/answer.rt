@@ -1,6 +1,7 @@
 //! The answer of each command, by its layer.
 ghost use Rattle.std.specs.Prelude.{◌≡◌, ◌≤◌, false, [], ◌^◌, length, IfOk, IfErr};
 ghost use Rattle.trop_words.specs.declared.command.Command.{Command};
+ghost use Rattle.trop_words.specs.declared.command.Command.TheVariants.{Int};
 ghost use Rattle.tplib_reply.specs.Meaning.{IsReply, IsRefused};
 ghost use Rattle.tplib_cmd.specs.Commands.{IsBuilt, IsInRange, reads, meaning_of};
 
@@ -25,8 +26,7 @@ pub(crate) fn answer(alloc: Global, command: Command<'_>, bytes: &[u8]) -> Resul
         Command::Reduce => reduce_reply(alloc, bytes),
         Command::Ext => ext_reply(alloc, bytes),
         Command::Tangent => tangent_reply(alloc, bytes),
-        Command::Int { lean: false } => int_reply(alloc, bytes),
-        Command::Int { lean: true } => lean_reply(alloc, bytes),
+        Command::Int { lean } => list_answer(alloc, lean, bytes),
         Command::Include => pair_reply(alloc, PairCommand::Include, bytes),
         Command::Equal => pair_reply(alloc, PairCommand::Equal, bytes),
         Command::Join => pair_reply(alloc, PairCommand::Join, bytes),
@@ -34,5 +34,18 @@ pub(crate) fn answer(alloc: Global, command: Command<'_>, bytes: &[u8]) -> Resul
         Command::Forget { var } => forget_reply(alloc, var, bytes),
         Command::Sample { seed, vars, rows } => sample_reply(alloc, seed, vars, rows),
         Command::Trace { .. } | Command::Analyze { .. } | Command::Check => unreachable!(),
+    }
+}
+
+// The answer of `int`: the external list, whole or lean.
+fn list_answer(alloc: Global, lean: bool, bytes: &[u8]) -> Result<Reply, Refusal>
+    requires short { length bytes.now ≤ 2 ^ 31 }
+    ensures reply { IfOk result (IsReply (meaning_of (Int lean)) bytes.now) }
+    ensures refused { IfErr result (IsRefused (meaning_of (Int lean)) bytes.now) }
+{
+    if lean {
+        lean_reply(alloc, bytes)
+    } else {
+        int_reply(alloc, bytes)
     }
 }

@@ -36,13 +36,13 @@ returns-in-Tangent-clause-refused c =
 
 pub returns-in-Int-clause-reply : goal.returns-in-Int-clause-reply
 returns-in-Int-clause-reply c =
-    subst (λ command. IfOk c.int_reply.result (IsReply (meaning_of command) c.args.bytes.now))
-    (sym c.in-Int.is) c.int_reply.ensures.reply
+    subst (λ command. IfOk c.list_answer.result (IsReply (meaning_of command) c.args.bytes.now))
+    (sym c.in-Int.is) c.list_answer.ensures.reply
 
 pub returns-in-Int-clause-refused : goal.returns-in-Int-clause-refused
 returns-in-Int-clause-refused c =
-    subst (λ command. IfErr c.int_reply.result (IsRefused (meaning_of command) c.args.bytes.now))
-    (sym c.in-Int.is) c.int_reply.ensures.refused
+    subst (λ command. IfErr c.list_answer.result (IsRefused (meaning_of command) c.args.bytes.now))
+    (sym c.in-Int.is) c.list_answer.ensures.refused
 
 pub returns-in-Include-clause-reply : goal.returns-in-Include-clause-reply
 returns-in-Include-clause-reply c =
