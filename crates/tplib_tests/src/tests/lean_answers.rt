@@ -1,5 +1,7 @@
 //! Answers of `int lean=on`, worked out by hand.
 use super::ending::{answer_of, ends_so};
+use itoa::Buffer;
+use std::alloc::Global;
 use std::test::Fail;
 
 /// A run that reads a file, and what it is to end with.
@@ -77,6 +79,12 @@ const CASES: [Case; 10] = [
     },
 ];
 
+// A cone with 286 extreme rows. The inequalities of its external list come in another order: x <= max(a7, b7) down to
+// x <= max(a1, b1), then x <= max(p, c7, d7) and so on, and those of p and a last. Without the first of them an extreme row
+// with x has one of each pair a, b, and beside it p or one of each pair c, d: 64 for p, and with 6 pairs c, d another 4,096.
+const LARGE_FRONT: &str =
+    "kind ineqs\nsemiring max\nvars x p a1 a2 a3 a4 a5 a6 a7 b1 b2 b3 b4 b5 b6 b7 c1 d1 c2 d2 c3 d3 c4 d4 c5 d5 c6 d6 c7 d7\nx <= max(p, a1)\nx <= max(p, a2)\nx <= max(p, a3)\nx <= max(p, a4)\nx <= max(p, a5)\nx <= max(p, a6)\nx <= max(p, a7)\nx <= max(a1, b1)\nx <= max(a2, b2)\nx <= max(a3, b3)\nx <= max(a4, b4)\nx <= max(a5, b5)\nx <= max(a6, b6)\nx <= max(a7, b7)\nx <= max(p, c1, d1)\nx <= max(p, c2, d2)\nx <= max(p, c3, d3)\nx <= max(p, c4, d4)\nx <= max(p, c5, d5)\nx <= max(p, c6, d6)\nx <= max(p, c7, d7)\n";
+
 #[test]
 fn lean_lists_with_their_rows(rt: HostRuntime) -> Result<(), Fail> {
     let alloc = rt.alloc();
@@ -103,6 +111,51 @@ fn lean_lists_convert_back(rt: HostRuntime) -> Result<(), Fail> {
     assert!(rt; bounds.is_some());
     if let Some(bounds) = bounds {
         assert!(rt; ends_so(alloc, "ext", bounds.as_slice(), 0, rows.as_slice(), b"")?);
+    }
+    Ok(())
+}
+
+#[test]
+fn the_others_of_an_inequality_past_the_limit(rt: HostRuntime) -> Result<(), Fail> {
+    let alloc = rt.alloc();
+    let rows = answer_of(alloc, "ext", LARGE_FRONT.as_bytes())?;
+    assert!(rt; rows.is_some());
+    if let Some(rows) = rows {
+        let line = b"tplib: limit: lean 1 inequalities 12\n";
+        assert!(rt; ends_so(alloc, "int lean=on", rows.as_slice(), 4, b"", line.as_slice())?);
+    }
+    Ok(())
+}
+
+// Four points with 8 variables each, of 32: a bound on the constant has a variable of each of them, so there are 4,096.
+fn four_groups(alloc: Global) -> Result<Vec<u8>, Fail> {
+    let mut text = Vec::from_slice(alloc, b"kind gens\nsemiring max\nvars")?;
+    for place in 1..=32u64 {
+        let mut buffer = Buffer::new();
+        text.extend_from_slice(b" v")?;
+        text.extend_from_slice(buffer.format(place).as_bytes())?;
+    }
+    for group in 0..4u64 {
+        text.extend_from_slice(b"\npoint")?;
+        for place in 0..32u64 {
+            let between: &[u8] = if place == 0 { b" [" } else { b", " };
+            let entry: &[u8] = if place / 8 == group { b"0" } else { b"-oo" };
+            text.extend_from_slice(between)?;
+            text.extend_from_slice(entry)?;
+        }
+        text.extend_from_slice(b"]")?;
+    }
+    text.extend_from_slice(b"\n")?;
+    Ok(text)
+}
+
+#[test]
+fn a_polar_past_the_limit(rt: HostRuntime) -> Result<(), Fail> {
+    let alloc = rt.alloc();
+    let text = four_groups(alloc)?;
+    for words in ["int", "int lean=on"] {
+        let line = b"tplib: limit: polar 0 rows 4\n";
+        assert!(rt; ends_so(alloc, words, text.as_slice(), 4, b"", line.as_slice())?, "{words}");
     }
     Ok(())
 }
