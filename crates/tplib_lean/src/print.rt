@@ -35,7 +35,11 @@ pub fn print_lean<S: Spelling>(
 }
 
 // Appends the line of an inequality.
-fn push_bound<S: Spelling>(text: &mut Vec<u8>, names: &Names, ineq: &Ineq<S>) -> Result<(), NoMemory>
+fn push_bound<S: Spelling>(
+    text: &mut Vec<u8>,
+    names: &Names,
+    ineq: &Ineq<S>,
+) -> Result<(), NoMemory>
     requires { length ineq.now.left ≡ length names.now + 1 }
     ensures { OnOk result (text.new.items ≡ text.old.items
         ++ (printed_inequality S.KIND S.numbering names.now ineq.now ++ codes "\n")) }

@@ -122,7 +122,16 @@ fn the_others_of_an_inequality_past_the_limit(rt: HostRuntime) -> Result<(), Fai
     assert!(rt; rows.is_some());
     if let Some(rows) = rows {
         let line = b"tplib: limit: lean 1 inequalities 12\n";
-        assert!(rt; ends_so(alloc, "int lean=on", rows.as_slice(), 4, b"", line.as_slice())?);
+        assert!(rt;
+            ends_so(
+                alloc,
+                "int lean=on",
+                rows.as_slice(),
+                4,
+                b"",
+                line.as_slice()
+            )?
+        );
     }
     Ok(())
 }
@@ -155,7 +164,10 @@ fn a_polar_past_the_limit(rt: HostRuntime) -> Result<(), Fail> {
     let text = four_groups(alloc)?;
     for words in ["int", "int lean=on"] {
         let line = b"tplib: limit: polar 0 rows 4\n";
-        assert!(rt; ends_so(alloc, words, text.as_slice(), 4, b"", line.as_slice())?, "{words}");
+        assert!(rt;
+            ends_so(alloc, words, text.as_slice(), 4, b"", line.as_slice())?,
+            "{words}"
+        );
     }
     Ok(())
 }
