@@ -20,11 +20,12 @@ use Rattle.trop_files.specs.InequalityFiles.{InequalityFile, SpellsInequalities}
 
 any_before_end : {X : Type 0} (p : X → Bool) (xs : List X) → list_any p xs ≡ true → position_or_len p xs < length xs
 any_before_end p [] h = absurd (let e : false ≡ true = h in cc)
-any_before_end p (x ∷ xs) h = at (p x) h
+any_before_end p (x ∷ xs) h = at (p x) (any_before_end p xs) h
   where
-    at : (b : Bool) → (b || list_any p xs) ≡ true → cond (not b) (1 + position_or_len p xs) 0 < suc (length xs)
-    at true h = omega arith
-    at false h = omega (arith, any_before_end p xs h)
+    at : (b : Bool) → (list_any p xs ≡ true → position_or_len p xs < length xs) → (b || list_any p xs) ≡ true →
+        cond (not b) (1 + position_or_len p xs) 0 < suc (length xs)
+    at true more h = omega arith
+    at false more h = omega (arith, more h)
 
 found : (i n : ℕ) → i < n → cond (ltb i n) (Some i) None ≡ None → ⊥
 found i n l e = let p : Some i ≡ None = subst (λ b. cond b (Some i) None ≡ None) (lt-ltb i n l) e in cc

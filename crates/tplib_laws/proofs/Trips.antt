@@ -91,7 +91,7 @@ module _ {V : Type 0} {R : Semiring V} {N : Numbering V} (laws : SemiringLaws R)
   system_file system = record { names = names; inequalities = over Systems system }
 
   module _ (system : List (Inequality V)) (text : List ℕ) (c : IsConverted kind R N names system text) where
-    abbrev back : (x : List V) → combinations c.answer x ↔ solutions system x
+    back : (x : List V) → combinations c.answer x ↔ solutions system x
     back x = ((c.generates x).1, (c.generates x).0)
 
     answer_wide : AreWide (length names + 1) c.answer
@@ -140,7 +140,7 @@ module _ {V : Type 0} {R : Semiring V} {N : Numbering V} (laws : SemiringLaws R)
 
   module _ (line : ℕ) (rows : List (List V)) (wide : AreWide (length names + 1) rows) (text : List ℕ)
       (c : IsBoundsFile kind R N names (combinations rows) text) where
-    abbrev forth : (x : List V) → solutions c.bounds x ↔ combinations rows x
+    forth : (x : List V) → solutions c.bounds x ↔ combinations rows x
     forth x = ((c.solved x).1, (c.solved x).0)
 
     lengths : (x : List V) → combinations rows x → length x ≡ length names + 1
