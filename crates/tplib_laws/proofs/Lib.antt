@@ -6,3 +6,12 @@ pub mod Fitting
 pub mod Sizes
 pub mod Texts
 pub mod Runs
+pub mod HeaderNames
+pub mod Readings
+pub mod Unstopped
+pub mod TextLengths
+pub mod ListLengths
+pub mod Understood
+pub mod Ends
+pub mod Trips
+pub mod RoundTrips

@@ -1,6 +1,9 @@
 //! Each law of the library, called once at a concrete semiring.
 use std::test::Fail;
-use tplib_laws::{equal_bytes_are_equal_cones, equal_bytes_are_equal_solutions};
+use tplib_laws::{
+    equal_bytes_are_equal_cones, equal_bytes_are_equal_solutions, ext_takes_back_int,
+    int_takes_back_ext,
+};
 use trop_dd::equal_rows_are_equal_solutions;
 use trop_guard::laws::{canonical_rows_are_minimal, minimal_coordinates_are_types};
 use trop_polar::laws::{
@@ -33,5 +36,7 @@ fn laws_at_a_semiring(_rt: HostRuntime) -> Result<(), Fail> {
     first_numbers();
     equal_bytes_are_equal_solutions();
     equal_bytes_are_equal_cones();
+    int_takes_back_ext();
+    ext_takes_back_int();
     Ok(())
 }
