@@ -12,20 +12,20 @@ use trop_scalar::Scalar;
 type NoMemory = AllocError;
 
 /// Numbers of which each stands for an element.
-pub type Numbers = [i8; 4];
+pub type Numbers = [i16; 4];
 
 /// Stands for the zero.
-pub const O: i8 = i8::MIN;
+pub const O: i16 = i16::MIN;
 
 /// No row: the zero row adds no vector to a cone.
 pub const NONE: Numbers = [O, O, O, O];
 
 // The most that an element here has in size.
-const MOST: u64 = 127;
+const MOST: u64 = 32_767;
 
 // The element that a number stands for.
-pub fn element<S: Scalar>(number: i8) -> S
-    ensures { S.ring.size result ≤ 127 }
+pub fn element<S: Scalar>(number: i16) -> S
+    ensures { S.ring.size result ≤ 32767 }
 {
     if number == O {
         return S::zero();
@@ -36,7 +36,7 @@ pub fn element<S: Scalar>(number: i8) -> S
 
 pub fn row<S: Scalar>(alloc: Global, numbers: Numbers) -> Result<Row<S>, NoMemory>
     ensures len { IfOk result (λ row. length row ≡ 4) }
-    ensures size { IfOk result (λ row. row_size S.ring row ≤ 127) }
+    ensures size { IfOk result (λ row. row_size S.ring row ≤ 32767) }
 {
     let [a, b, c, d] = numbers;
     let mut entries = Vec::new(alloc);
@@ -54,7 +54,7 @@ pub fn inequality<S: Scalar>(
     right: Numbers,
 ) -> Result<Ineq<S>, NoMemory>
     ensures sides { IfOk result (IsIn 4) }
-    ensures size { IfOk result (λ p. inequality_size S.ring p ≤ 127) }
+    ensures size { IfOk result (λ p. inequality_size S.ring p ≤ 32767) }
 {
     Ok(Ineq::new(row(alloc, left)?, row(alloc, right)?))
 }
@@ -62,7 +62,7 @@ pub fn inequality<S: Scalar>(
 // The combinations of the rows.
 pub fn cone<S: Scalar>(alloc: Global, rows: [Numbers; 3]) -> Result<Poly<S>, PolyErr>
     ensures width { IfOk result (λ cone. cone.n ≡ 4) }
-    ensures size { IfOk result (λ cone. rows_size S.ring cone.rows ≤ 254) }
+    ensures size { IfOk result (λ cone. rows_size S.ring cone.rows ≤ 65534) }
 {
     let [a, b, c] = rows;
     let mut gens = Gens::new(alloc, 4);
@@ -75,9 +75,9 @@ pub fn cone<S: Scalar>(alloc: Global, rows: [Numbers; 3]) -> Result<Poly<S>, Pol
 // The solutions of the system.
 pub fn solutions<S: Scalar>(alloc: Global, system: &System<S>) -> Result<Poly<S>, PolyErr>
     requires width { system.now.n ≡ 4 }
-    requires size { system_size S.ring system.now.inequalities ≤ 127 }
+    requires size { system_size S.ring system.now.inequalities ≤ 32767 }
     ensures width { IfOk result (λ cone. cone.n ≡ 4) }
-    ensures size { IfOk result (λ cone. rows_size S.ring cone.rows ≤ 1524) }
+    ensures size { IfOk result (λ cone. rows_size S.ring cone.rows ≤ 393204) }
 {
     Poly::from_system(alloc, system)
 }

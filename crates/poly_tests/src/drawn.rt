@@ -25,7 +25,11 @@ fn meets_are_those_of_both_systems<S: Scalar>(alloc: Global, seed: u32) -> Resul
     let turned = second.meet(alloc, &first)?;
     let wanted = shown(alloc, both.rows())?;
     same_text(alloc, wanted.as_str(), shown(alloc, met.rows())?.as_str())?;
-    same_text(alloc, wanted.as_str(), shown(alloc, turned.rows())?.as_str())
+    same_text(
+        alloc,
+        wanted.as_str(),
+        shown(alloc, turned.rows())?.as_str(),
+    )
 }
 
 fn guards_are_those_of_the_longer_system<S: Scalar>(
@@ -37,13 +41,20 @@ fn guards_are_those_of_the_longer_system<S: Scalar>(
     let ineq = drawn_inequality(alloc, &mut Draws::from_seed(other_of(seed)))?;
     let guarded = first.guard(alloc, &ineq)?;
     let wanted = shown(alloc, longer.rows())?;
-    same_text(alloc, wanted.as_str(), shown(alloc, guarded.rows())?.as_str())
+    same_text(
+        alloc,
+        wanted.as_str(),
+        shown(alloc, guarded.rows())?.as_str(),
+    )
 }
 
 #[test]
 fn meets_in_max(rt: HostRuntime) -> Result<(), Fail> {
     for seed in 0..PAIRS {
-        assert!(rt; meets_are_those_of_both_systems::<MaxInt>(rt.alloc(), seed)?, "seed {seed}");
+        assert!(rt;
+            meets_are_those_of_both_systems::<MaxInt>(rt.alloc(), seed)?,
+            "seed {seed}"
+        );
     }
     Ok(())
 }
@@ -51,7 +62,10 @@ fn meets_in_max(rt: HostRuntime) -> Result<(), Fail> {
 #[test]
 fn meets_in_min(rt: HostRuntime) -> Result<(), Fail> {
     for seed in 0..PAIRS {
-        assert!(rt; meets_are_those_of_both_systems::<MinInt>(rt.alloc(), seed)?, "seed {seed}");
+        assert!(rt;
+            meets_are_those_of_both_systems::<MinInt>(rt.alloc(), seed)?,
+            "seed {seed}"
+        );
     }
     Ok(())
 }
@@ -59,7 +73,10 @@ fn meets_in_min(rt: HostRuntime) -> Result<(), Fail> {
 #[test]
 fn meets_in_truth_values(rt: HostRuntime) -> Result<(), Fail> {
     for seed in 0..PAIRS {
-        assert!(rt; meets_are_those_of_both_systems::<Flag>(rt.alloc(), seed)?, "seed {seed}");
+        assert!(rt;
+            meets_are_those_of_both_systems::<Flag>(rt.alloc(), seed)?,
+            "seed {seed}"
+        );
     }
     Ok(())
 }
@@ -67,7 +84,10 @@ fn meets_in_truth_values(rt: HostRuntime) -> Result<(), Fail> {
 #[test]
 fn guards_in_max(rt: HostRuntime) -> Result<(), Fail> {
     for seed in 0..PAIRS {
-        assert!(rt; guards_are_those_of_the_longer_system::<MaxInt>(rt.alloc(), seed)?, "seed {seed}");
+        assert!(rt;
+            guards_are_those_of_the_longer_system::<MaxInt>(rt.alloc(), seed)?,
+            "seed {seed}"
+        );
     }
     Ok(())
 }
@@ -75,7 +95,10 @@ fn guards_in_max(rt: HostRuntime) -> Result<(), Fail> {
 #[test]
 fn guards_in_min(rt: HostRuntime) -> Result<(), Fail> {
     for seed in 0..PAIRS {
-        assert!(rt; guards_are_those_of_the_longer_system::<MinInt>(rt.alloc(), seed)?, "seed {seed}");
+        assert!(rt;
+            guards_are_those_of_the_longer_system::<MinInt>(rt.alloc(), seed)?,
+            "seed {seed}"
+        );
     }
     Ok(())
 }
@@ -83,7 +106,10 @@ fn guards_in_min(rt: HostRuntime) -> Result<(), Fail> {
 #[test]
 fn guards_in_truth_values(rt: HostRuntime) -> Result<(), Fail> {
     for seed in 0..PAIRS {
-        assert!(rt; guards_are_those_of_the_longer_system::<Flag>(rt.alloc(), seed)?, "seed {seed}");
+        assert!(rt;
+            guards_are_those_of_the_longer_system::<Flag>(rt.alloc(), seed)?,
+            "seed {seed}"
+        );
     }
     Ok(())
 }

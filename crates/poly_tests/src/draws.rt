@@ -27,10 +27,10 @@ impl Draws {
     }
 
     // The zero two times out of three, else a number from -10 to 10.
-    fn number(&mut self) -> i8 {
+    fn number(&mut self) -> i16 {
         let draw = self.next();
         if draw % 3 == 0 {
-            ((draw / 3 % 21) as i8).wrapping_sub(10)
+            ((draw / 3 % 21) as i16).wrapping_sub(10)
         } else {
             O
         }
@@ -43,7 +43,7 @@ impl Draws {
 
 pub fn drawn_inequality<S: Scalar>(alloc: Global, draws: &mut Draws) -> Result<Ineq<S>, NoMemory>
     ensures sides { IfOk result (IsIn 4) }
-    ensures size { IfOk result (λ p. inequality_size S.ring p ≤ 127) }
+    ensures size { IfOk result (λ p. inequality_size S.ring p ≤ 32767) }
 {
     let left = draws.numbers();
     let right = draws.numbers();
@@ -53,7 +53,7 @@ pub fn drawn_inequality<S: Scalar>(alloc: Global, draws: &mut Draws) -> Result<I
 // The two inequalities of a seed.
 pub fn system_of<S: Scalar>(alloc: Global, seed: u32) -> Result<System<S>, NoMemory>
     ensures width { IfOk result (λ system. system.n ≡ 4) }
-    ensures size { IfOk result (λ system. system_size S.ring system.inequalities ≤ 127) }
+    ensures size { IfOk result (λ system. system_size S.ring system.inequalities ≤ 32767) }
 {
     let mut draws = Draws::from_seed(seed);
     let mut system = System::new(alloc, 4);
@@ -69,7 +69,7 @@ pub fn system_of_both<S: Scalar>(
     other: u32,
 ) -> Result<System<S>, NoMemory>
     ensures width { IfOk result (λ system. system.n ≡ 4) }
-    ensures size { IfOk result (λ system. system_size S.ring system.inequalities ≤ 127) }
+    ensures size { IfOk result (λ system. system_size S.ring system.inequalities ≤ 32767) }
 {
     let mut draws = Draws::from_seed(seed);
     let mut more = Draws::from_seed(other);
@@ -88,7 +88,7 @@ pub fn system_and_first<S: Scalar>(
     other: u32,
 ) -> Result<System<S>, NoMemory>
     ensures width { IfOk result (λ system. system.n ≡ 4) }
-    ensures size { IfOk result (λ system. system_size S.ring system.inequalities ≤ 127) }
+    ensures size { IfOk result (λ system. system_size S.ring system.inequalities ≤ 32767) }
 {
     let mut draws = Draws::from_seed(seed);
     let mut more = Draws::from_seed(other);

@@ -18,7 +18,7 @@ enum Call {
     /// The projection along a coordinate.
     Forget(u32),
     /// The assignment to a coordinate, of a coordinate, and a number.
-    Assign(u32, u32, i8),
+    Assign(u32, u32, i16),
     /// The part where the left side is at most the right side.
     Guard(Numbers, Numbers),
 }

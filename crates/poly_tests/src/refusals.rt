@@ -1,35 +1,27 @@
 //! Cones over the limit of rows, and the texts of errors.
-ghost use Rattle.std.specs.Prelude.{◌≡◌, ◌≤◌, IfOk, length};
-ghost use Rattle.trop_theory.specs.Vectors.{row_size, rows_size};
+ghost use Rattle.std.specs.Prelude.{◌≡◌, ◌≤◌, IfOk};
+ghost use Rattle.trop_theory.specs.Vectors.{rows_size};
+ghost use Rattle.trop_scalar.specs.MaxPlus.{max_ring};
 
-use crate::cones::same_text;
-use std::alloc::{AllocError, Global};
+use crate::cones::{O, row, same_text};
+use std::alloc::Global;
 use std::test::Fail;
 use trop_dd::DdErr;
 use trop_guard::GuardErr;
 use trop_poly::{Poly, PolyErr};
-use trop_row::{Gens, Row};
-use trop_scalar::{MaxInt, Scalar};
+use trop_row::Gens;
+use trop_scalar::MaxInt;
 
-type NoMemory = AllocError;
-
-// The point (i, -i): none of them is a combination of others.
-fn stair(alloc: Global, i: u16) -> Result<Row<MaxInt>, NoMemory>
-    ensures len { IfOk result (λ row. length row ≡ 3) }
+// The points (i, -i) of so many numbers from `low` on: none of them is a combination of others.
+fn stairs(alloc: Global, low: i16, count: u16) -> Result<Poly<MaxInt>, PolyErr>
+    ensures width { IfOk result (λ cone. cone.n ≡ 4) }
+    ensures size { IfOk result (λ cone. rows_size max_ring cone.rows ≤ 65534) }
 {
-    let number = i64::from(i);
-    let mut entries = Vec::new(alloc);
-    entries.push(MaxInt::one())?;
-    entries.push(MaxInt::of(number))?;
-    entries.push(MaxInt::of(-number))?;
-    Row::from_entries(alloc, entries.as_slice())
-}
-
-// The points from `low` to before `high`.
-fn stairs(alloc: Global, low: u16, high: u16) -> Result<Poly<MaxInt>, PolyErr> {
-    let mut gens = Gens::new(alloc, 3);
-    for i in low..high {
-        gens.push(stair(alloc, i)?)?;
+    let mut gens = Gens::new(alloc, 4);
+    let mut number = low;
+    for _k in 0..count {
+        gens.push(row(alloc, [0, number, number.wrapping_neg(), O])?)?;
+        number = number.wrapping_add(1);
     }
     Poly::from_gens(alloc, &gens)
 }
@@ -39,9 +31,9 @@ fn stairs(alloc: Global, low: u16, high: u16) -> Result<Poly<MaxInt>, PolyErr> {
 fn joins_at_the_limit(rt: HostRuntime) -> Result<(), Fail> {
     let alloc = rt.alloc();
     let first = stairs(alloc, 0, 2_000)?;
-    let fits = first.join(alloc, &stairs(alloc, 2_000, 4_096)?)?;
+    let fits = first.join(alloc, &stairs(alloc, 2_000, 2_096)?)?;
     assert_eq!(rt; fits.rows().len(), 4_096);
-    let over = first.join(alloc, &stairs(alloc, 2_000, 4_097)?);
+    let over = first.join(alloc, &stairs(alloc, 2_000, 2_097)?);
     assert!(rt; over.err() == Some(PolyErr::Rows(0)));
     Ok(())
 }
@@ -59,7 +51,10 @@ fn texts_of_errors(rt: HostRuntime) -> Result<(), Fail> {
             "the external list stops at coordinate 2 with 17 rows",
         ),
         (format!(in alloc; "{}", PolyErr::NoMemory)?, "no memory"),
-        (format!(in alloc; "{}", GuardErr::Limit)?, "more than 4096 extreme rows"),
+        (
+            format!(in alloc; "{}", GuardErr::Limit)?,
+            "more than 4096 extreme rows",
+        ),
         (format!(in alloc; "{}", GuardErr::NoMemory)?, "no memory"),
         (
             format!(in alloc; "{}", DdErr::Limit(4))?,

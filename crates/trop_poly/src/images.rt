@@ -1,7 +1,7 @@
 // The join of two cones, the projection of a cone along a coordinate, and the assignment of a multiple of a coordinate
-// to
-// another, each by its rows.
-ghost use Rattle.std.specs.Prelude.{◌≡◌, ◌+◌, ◌^◌, ◌++◌, [], ◌∷◌, ◌<◌, ◌≤◌, ◌↔◌, List, IfOk, IfErr, OnOk, length, map, slice_set};
+// to another, each by its rows.
+ghost use Rattle.std.specs.Prelude.{◌≡◌, ◌+◌, ◌^◌, ◌++◌, [], ◌∷◌, ◌<◌, ◌≤◌, ◌↔◌};
+ghost use Rattle.std.specs.Prelude.{List, IfOk, IfErr, OnOk, length, map, slice_set};
 ghost use Rattle.trop_theory.specs.Vectors.{bottom, entry, row_size, rows_size, AreWide};
 ghost use Rattle.trop_theory.specs.Combinations.{IsCombination};
 ghost use Rattle.trop_theory.specs.Canonical.{row_limit};
