@@ -1,8 +1,8 @@
 // The join of two cones, the projection of a cone along a coordinate, and the assignment of a multiple of a coordinate
-// to
-// another, each by its rows.
-ghost use Rattle.std.specs.Prelude.{◌≡◌, ◌+◌, ◌<◌, ◌≤◌, ◌↔◌, List, IfOk, IfErr, length, map, slice_set};
-ghost use Rattle.trop_theory.specs.Vectors.{row_size, rows_size, AreWide};
+// to another, each by its rows.
+ghost use Rattle.std.specs.Prelude.{◌≡◌, ◌+◌, ◌^◌, ◌++◌, [], ◌∷◌, ◌<◌, ◌≤◌, ◌↔◌};
+ghost use Rattle.std.specs.Prelude.{List, IfOk, IfErr, OnOk, length, map, slice_set};
+ghost use Rattle.trop_theory.specs.Vectors.{bottom, entry, row_size, rows_size, AreWide};
 ghost use Rattle.trop_theory.specs.Combinations.{IsCombination};
 ghost use Rattle.trop_theory.specs.Canonical.{row_limit};
 ghost use Rattle.trop_theory.specs.Sizes.{most_mixed};
@@ -19,6 +19,20 @@ use trop_row::{Gens, Row};
 use trop_scalar::Scalar;
 
 type NoMemory = AllocError;
+
+// The rows of the first list, and behind them those of the second.
+fn both_lists<S: Scalar>(
+    alloc: Global,
+    first: &[Row<S>],
+    second: &[Row<S>],
+) -> Result<Vec<Row<S>>, NoMemory>
+    ensures { IfOk result (λ rows. rows.items ≡ first.now ++ second.now) }
+{
+    let mut rows = Vec::new(alloc);
+    append_copies(alloc, &mut rows, first)?;
+    append_copies(alloc, &mut rows, second)?;
+    Ok(rows)
+}
 
 // The rows of both lists, which generate the sums of a combination of the one and a combination of the other.
 fn joined_rows<S: Scalar>(
@@ -37,9 +51,7 @@ fn joined_rows<S: Scalar>(
         IsCombination S.ring out.n out.rows x ↔ InJoin S.ring (IsCombination S.ring first.now.n first.now.rows)
         (IsCombination S.ring second.now.n second.now.rows) x) }
 {
-    let mut rows = Vec::new(alloc);
-    append_copies(alloc, &mut rows, first.as_slice())?;
-    append_copies(alloc, &mut rows, second.as_slice())?;
+    let rows = both_lists(alloc, first.as_slice(), second.as_slice())?;
     Ok(Gens::from_rows(first.n(), rows))
 }
 
@@ -63,6 +75,21 @@ fn cleared_rows<S: Scalar>(
     Ok(out)
 }
 
+// Appends the unit row of i.
+fn push_unit<S: Scalar>(
+    alloc: Global,
+    rows: &mut Vec<Row<S>>,
+    n: u32,
+    i: u32,
+) -> Result<(), NoMemory>
+    requires within { i < n }
+    requires at_most { n ≤ 64 }
+    ensures { OnOk result (rows.new.items ≡ rows.old.items ++ slice_set (bottom S.ring n) i S.ring.one ∷ []) }
+{
+    rows.push(Row::unit(alloc, n, i)?)?;
+    Ok(())
+}
+
 // The rows with entry i cleared, and the unit row of i: they generate the vectors that agree with a combination outside
 // of i.
 fn forgetting_rows<S: Scalar>(alloc: Global, gens: &Gens<S>, i: u32) -> Result<Gens<S>, NoMemory>
@@ -76,8 +103,17 @@ fn forgetting_rows<S: Scalar>(alloc: Global, gens: &Gens<S>, i: u32) -> Result<G
 {
     let n = gens.n();
     let mut rows = cleared_rows(alloc, gens.as_slice(), n, i)?;
-    rows.push(Row::unit(alloc, n, i)?)?;
+    push_unit(alloc, &mut rows, n, i)?;
     Ok(Gens::from_rows(n, rows))
+}
+
+// c times the entry at `from`.
+fn multiple<S: Scalar>(row: &Row<S>, from: u32, c: S) -> S
+    requires inside { from < length row.now }
+    requires size { S.ring.size c + S.ring.size (entry S.ring row.now from) ≤ 2 ^ 62 }
+    ensures { result ≡ S.ring.times c (entry S.ring row.now from) }
+{
+    c.times(row.get(from))
 }
 
 // The row with entry i replaced by c times its entry at `from`.
@@ -94,7 +130,7 @@ fn assigned_row<S: Scalar>(
     ensures { IfOk result (λ next. next ≡ assigned S.ring i from c row.now) }
 {
     let mut next = row.copy(alloc)?;
-    next.set(i, c.times(row.get(from)));
+    next.set(i, multiple(row, from, c));
     Ok(next)
 }
 

@@ -1,8 +1,9 @@
 // One inequality more on a cone, and the common part of two cones.
-ghost use Rattle.std.specs.Prelude.{◌≡◌, ◌≤◌, ℕ, List, IfOk, IfErr, OnOk};
+ghost use Rattle.std.specs.Prelude.{◌≡◌, ◌≤◌, ℕ, List, IfOk, IfErr, OnOk, length};
 ghost use Rattle.trop_theory.specs.Vectors.{rows_size, AreWide};
 ghost use Rattle.trop_theory.specs.Inequalities.{InGuard, IsIn, Solves, inequality_size, system_size};
 ghost use Rattle.trop_theory.specs.Combinations.{IsCombination};
+ghost use Rattle.trop_theory.specs.Canonical.{IsCanonical, row_limit};
 ghost use Rattle.trop_theory.specs.Sizes.{most_coefficient, most_mixed};
 ghost use Rattle.trop_cones.specs.Sets.{InMeet};
 ghost use Rattle.trop_cones.specs.RowStops.{IsMeetStop};
@@ -21,6 +22,31 @@ use trop_guard::{GuardErr, guard};
 use trop_row::{Gens, Ineq, System};
 use trop_scalar::Scalar;
 
+// The canonical list of the combinations of the rows at which the inequality is true. A refusal gives the number.
+fn narrowed_rows<S: Scalar>(
+    alloc: Global,
+    gens: &Gens<S>,
+    ineq: &Ineq<S>,
+    number: u32,
+) -> Result<Gens<S>, PolyErr>
+    requires inside { IsIn gens.now.n ineq.now }
+    requires canonical { IsCanonical S.ring (IsCombination S.ring gens.now.n gens.now.rows) gens.now.rows }
+    requires few { length gens.now.rows ≤ row_limit }
+    requires size { rows_size S.ring gens.now.rows ≤ most_mixed }
+    requires coefficients { inequality_size S.ring ineq.now ≤ most_coefficient }
+    ensures width { IfOk result (λ next. next.n ≡ gens.now.n) }
+    ensures holds { IfOk result (λ next. Represents S.ring gens.now.n
+        (InGuard S.ring (IsCombination S.ring gens.now.n gens.now.rows) ineq.now) next.rows) }
+    ensures refused { IfErr result (IsConeRefusal S.ring number
+        (InGuard S.ring (IsCombination S.ring gens.now.n gens.now.rows) ineq.now)) }
+{
+    match guard(alloc, gens, ineq) {
+        Ok(next) => Ok(next),
+        Err(GuardErr::Limit) => Err(PolyErr::Rows(number)),
+        Err(GuardErr::NoMemory) => Err(PolyErr::NoMemory),
+    }
+}
+
 // The vectors of the cone at which the inequality is true. A refusal gives the number.
 fn narrowed<S: Scalar>(
     alloc: Global,
@@ -36,10 +62,9 @@ fn narrowed<S: Scalar>(
         next.rows) }
     ensures refused { IfErr result (IsConeRefusal S.ring number (InGuard S.ring (InCone S.ring cone.now) ineq.now)) }
 {
-    match guard(alloc, cone.rows(), ineq) {
+    match narrowed_rows(alloc, cone.rows(), ineq, number) {
         Ok(rows) => Ok(Poly::from_canonical(rows)),
-        Err(GuardErr::Limit) => Err(PolyErr::Rows(number)),
-        Err(GuardErr::NoMemory) => Err(PolyErr::NoMemory),
+        Err(err) => Err(err),
     }
 }
 

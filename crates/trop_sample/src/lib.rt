@@ -6,8 +6,6 @@ mod coefficient;
 mod draws;
 mod inequality;
 mod sample;
-#[cfg(test)]
-mod tests;
 mod worked;
 
 pub use sample::make;

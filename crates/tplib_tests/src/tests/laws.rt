@@ -5,15 +5,10 @@ use tplib_laws::{
     int_takes_back_ext,
 };
 use trop_dd::equal_rows_are_equal_solutions;
-use trop_guard::laws::{canonical_rows_are_minimal, minimal_coordinates_are_types};
-use trop_polar::laws::{
-    bipolar, canonical_list_of_external_list, external_list_exists, external_list_is_unique,
-};
 use trop_row::laws::{
     canonical_list_generates, canonical_list_of_rows_is_unique, canonical_list_of_system_is_unique,
     comparison_of_rows, step_generates_guard,
 };
-use trop_sample::first_numbers;
 use trop_scalar::{Flag, MaxInt, MinInt};
 use trop_tangent::{extreme_entries_are_near, extreme_rows_are_small};
 
@@ -27,13 +22,6 @@ fn laws_at_a_semiring(_rt: HostRuntime) -> Result<(), Fail> {
     extreme_entries_are_near::<Flag>();
     extreme_rows_are_small::<MaxInt>();
     equal_rows_are_equal_solutions::<MinInt>();
-    canonical_rows_are_minimal::<Flag>();
-    minimal_coordinates_are_types::<MaxInt>();
-    bipolar::<MinInt>();
-    external_list_exists::<Flag>();
-    external_list_is_unique::<MaxInt>();
-    canonical_list_of_external_list::<MinInt>();
-    first_numbers();
     equal_bytes_are_equal_solutions();
     equal_bytes_are_equal_cones();
     int_takes_back_ext();

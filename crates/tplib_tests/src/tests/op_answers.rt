@@ -11,7 +11,7 @@ struct Case {
     err: &'static str,
 }
 
-const CASES: [Case; 29] = [
+const CASES: [Case; 30] = [
     // The inequalities of a single point.
     Case {
         words: "int",
@@ -193,6 +193,13 @@ const CASES: [Case; 29] = [
         input: "kind gens\nsemiring min\nvars x y\npoint [2, 3]\n",
         code: 0,
         out: "kind gens\nsemiring min\nvars x y\nray [oo, 0]\npoint [2, oo]\n",
+        err: "",
+    },
+    Case {
+        words: "op forget var=x",
+        input: "kind gens\nsemiring bool\nvars x y\npoint [true, true]\n",
+        code: 0,
+        out: "kind gens\nsemiring bool\nvars x y\nray [true, false]\npoint [false, true]\n",
         err: "",
     },
     Case {

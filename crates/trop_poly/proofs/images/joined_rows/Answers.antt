@@ -10,10 +10,8 @@ use Rattle.trop_poly.proofs.images.joined_rows.Goals as goal
 pub returns-clause-size : goal.returns-clause-size
 returns-clause-size g c =
     let R = g.S.Scalar.ring in
-    let e = c.from_rows.ensures.rows ∙ c.in_ok-append_copies-2.ensures
-    ∙ ap₂ (λ a b. a ++ b) (c.in_ok-append_copies.ensures
-    ∙ ap (λ z. z ++ c.as_slice.result.now) c.new-rows.ensures.items ∙ c.as_slice.ensures.rows)
-    c.as_slice-2.ensures.rows in
+    let e = c.from_rows.ensures.rows ∙ c.in_ok-rows.ensures
+    ∙ ap₂ (λ a b. a ++ b) c.as_slice.ensures.rows c.as_slice-2.ensures.rows in
     omega (
       arith,
       ap (rows_size R) e,
@@ -27,10 +25,8 @@ returns-clause-same g c =
     let first = c.args.first.now in
     let second = c.args.second.now in
     let out = c.from_rows.result in
-    let e = c.from_rows.ensures.rows ∙ c.in_ok-append_copies-2.ensures
-    ∙ ap₂ (λ a b. a ++ b) (c.in_ok-append_copies.ensures
-    ∙ ap (λ z. z ++ c.as_slice.result.now) c.new-rows.ensures.items ∙ c.as_slice.ensures.rows)
-    c.as_slice-2.ensures.rows in
+    let e = c.from_rows.ensures.rows ∙ c.in_ok-rows.ensures
+    ∙ ap₂ (λ a b. a ++ b) c.as_slice.ensures.rows c.as_slice-2.ensures.rows in
     subst (λ k. (x : List _) → IsCombination R out.n out.rows x ↔ InJoin R (IsCombination R first.n first.rows)
     (IsCombination R k second.rows) x) c.requires.width
     (λ x. joined_rows g.met.S.Scalar.ring_laws first.n out.n out.rows

@@ -2,15 +2,15 @@ use Rattle.std.proofs.Common.{refl, sym, ap, ◌∙◌, subst}
 use Rattle.std.specs.Prelude.{◌↔◌}
 use Rattle.trop_theory.specs.Inequalities.{IsIn, InGuard}
 use Rattle.trop_theory.specs.Combinations.{IsCombination}
-use Rattle.trop_theory.specs.Canonical.{IsCanonical, IsOverLimit}
+use Rattle.trop_theory.specs.Canonical.{IsCanonical}
 use Rattle.trop_cones.specs.Represents.{Represents}
-use Rattle.trop_guard.specs.Refusals.{IsRefusedBy}
 use Rattle.trop_poly.specs.Cones.{InCone}
-use Rattle.trop_poly.proofs.Kept.{represents_as, represents_itself_as, cone_is}
+use Rattle.trop_poly.specs.Refusals.{IsConeRefusal}
+use Rattle.trop_poly.proofs.Kept.{represents_itself_as, cone_is}
 use Rattle.trop_poly.proofs.narrowing.narrowed.Goals as goal
 
-pub guard-requires-clause-canonical : goal.guard-requires-clause-canonical
-guard-requires-clause-canonical g c =
+pub narrowed_rows-requires-clause-canonical : goal.narrowed_rows-requires-clause-canonical
+narrowed_rows-requires-clause-canonical g c =
     let R = g.S.Scalar.ring in
     let here = cone_is c.rows.result.now.n c.rows.result.now.rows c.args.cone.now c.rows.ensures.width
     c.rows.ensures.rows in
@@ -33,11 +33,10 @@ returns-in-Ok-clause-holds g c =
     (subst (λ p. Represents R p.n (InGuard R (InCone R p) c.args.ineq.now) c.in-Ok.rows.rows) here
     c.in-Ok.ensures.holds)
 
-pub returns-in-Err-Limit-clause-refused : goal.returns-in-Err-Limit-clause-refused
-returns-in-Err-Limit-clause-refused g c =
+pub returns-in-Err-clause-refused : goal.returns-in-Err-clause-refused
+returns-in-Err-clause-refused g c =
     let R = g.S.Scalar.ring in
     let gens = c.rows.result.now in
-    let C = InGuard R (IsCombination R gens.n gens.rows) c.args.ineq.now in
     let here = cone_is gens.n gens.rows c.args.cone.now c.rows.ensures.width c.rows.ensures.rows in
-    let over : IsOverLimit R C = subst (IsRefusedBy R C) c.in-Err-Limit.field-0-is c.in-Err-Limit.ensures.refused in
-    (refl, subst (λ p. IsOverLimit R (InGuard R (InCone R p) c.args.ineq.now)) here over)
+    subst (λ p. IsConeRefusal R c.args.number (InGuard R (InCone R p) c.args.ineq.now) c.in-Err.err) here
+    c.in-Err.ensures.refused

@@ -1,6 +1,7 @@
 //! Samples that were worked out by hand.
-use crate::make;
+
 use std::test::Fail;
+use trop_sample::make;
 use trop_scalar::{MaxInt, Scalar};
 
 // The first system is worked out by hand: the greater of -10 and x + 6 is at most y + 1.
