@@ -16,3 +16,4 @@ mod pairs;
 mod plain;
 mod runs;
 mod sample_answers;
+mod trace_answers;
