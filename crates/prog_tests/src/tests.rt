@@ -1,5 +1,6 @@
 mod counts;
 mod cuts;
+mod edges;
 mod faults;
 mod modes;
 mod reading;

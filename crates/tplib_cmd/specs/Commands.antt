@@ -7,6 +7,7 @@ use Rattle.trop_files.specs.Generators.{GeneratorFile}
 use Rattle.trop_files.specs.InequalityFiles.{InequalityFile}
 use Rattle.trop_files.specs.PairFiles.{TwoFile}
 use Rattle.trop_files.specs.AtFiles.{AtText}
+use Rattle.prog_texts.specs.Traces.{TraceFile}
 use Rattle.tplib_reply.specs.Meaning.{Meaning, never}
 use Rattle.tplib_cones.specs.Reduce.{reduce_meaning}
 use Rattle.tplib_cones.specs.Ext.{ext_meaning}
@@ -17,6 +18,7 @@ use Rattle.tplib_poly.specs.Forget.{forget_meaning}
 use Rattle.tplib_poly.specs.Sample.{Numbers, sample_meaning}
 use Rattle.tplib_lean.specs.Lean.{lean_meaning}
 use Rattle.tplib_tangent.specs.Tangent.{tangent_meaning}
+use Rattle.tplib_progs.specs.Trace.{trace_meaning}
 
 -- The command is built. Words of one that is not are bad words.
 abbrev pub IsBuilt : Command → Type 0
@@ -29,7 +31,7 @@ IsBuilt Equal = Unit {0}
 IsBuilt Join = Unit {0}
 IsBuilt Meet = Unit {0}
 IsBuilt (Forget var) = Unit {0}
-IsBuilt (Trace turns) = ⊥
+IsBuilt (Trace turns) = Unit {0}
 IsBuilt (Analyze mode delay narrow) = ⊥
 IsBuilt Check = ⊥
 IsBuilt (Sample seed vars rows) = Unit {0}
@@ -82,7 +84,7 @@ Said Equal = TwoFile
 Said Join = TwoFile
 Said Meet = TwoFile
 Said (Forget var) = GeneratorFile
-Said (Trace turns) = ⊥
+Said (Trace turns) = TraceFile
 Said (Analyze mode delay narrow) = ⊥
 Said Check = ⊥
 Said (Sample seed vars rows) = Numbers
@@ -102,7 +104,7 @@ meaning_of Equal = pair_meaning pair.Equal
 meaning_of Join = pair_meaning pair.Join
 meaning_of Meet = pair_meaning pair.Meet
 meaning_of (Forget var) = forget_meaning var.now
-meaning_of (Trace turns) = unbuilt
+meaning_of (Trace turns) = trace_meaning turns
 meaning_of (Analyze mode delay narrow) = unbuilt
 meaning_of Check = unbuilt
 meaning_of (Sample seed vars rows) = sample_meaning seed vars rows

@@ -9,6 +9,7 @@ use std::alloc::Global;
 use tplib_cones::{ext_reply, reduce_reply};
 use tplib_lean::lean_reply;
 use tplib_poly::{PairCommand, forget_reply, int_reply, pair_reply, sample_reply};
+use tplib_progs::trace_reply;
 use tplib_reply::{Refusal, Reply};
 use tplib_tangent::tangent_reply;
 use trop_words::Command;
@@ -33,7 +34,8 @@ pub(crate) fn answer(alloc: Global, command: Command<'_>, bytes: &[u8]) -> Resul
         Command::Meet => pair_reply(alloc, PairCommand::Meet, bytes),
         Command::Forget { var } => forget_reply(alloc, var, bytes),
         Command::Sample { seed, vars, rows } => sample_reply(alloc, seed, vars, rows),
-        Command::Trace { .. } | Command::Analyze { .. } | Command::Check => unreachable!(),
+        Command::Trace { turns } => trace_reply(alloc, turns, bytes),
+        Command::Analyze { .. } | Command::Check => unreachable!(),
     }
 }
 

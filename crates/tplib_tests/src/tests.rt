@@ -17,3 +17,4 @@ mod pairs;
 mod plain;
 mod runs;
 mod sample_answers;
+mod trace_answers;

@@ -94,6 +94,19 @@ returns-in-Forget-clause-refused c =
     subst (λ command. IfErr c.forget_reply.result (IsRefused (meaning_of command) c.args.bytes.now))
     (sym c.in-Forget.is) c.forget_reply.ensures.refused
 
+pub returns-in-Trace-clause-reply : goal.returns-in-Trace-clause-reply
+returns-in-Trace-clause-reply c =
+    subst (λ command. IfOk c.trace_reply.result (IsReply (meaning_of command) c.args.bytes.now))
+    (sym c.in-Trace.is) c.trace_reply.ensures.reply
+
+pub returns-in-Trace-clause-refused : goal.returns-in-Trace-clause-refused
+returns-in-Trace-clause-refused c =
+    subst (λ command. IfErr c.trace_reply.result (IsRefused (meaning_of command) c.args.bytes.now))
+    (sym c.in-Trace.is) c.trace_reply.ensures.refused
+
+pub trace_reply-requires-clause-turns : goal.trace_reply-requires-clause-turns
+trace_reply-requires-clause-turns c = subst IsInRange c.in-Trace.is c.requires.range
+
 pub returns-in-Sample-clause-reply : goal.returns-in-Sample-clause-reply
 returns-in-Sample-clause-reply c =
     let none : c.args.bytes.now ≡ [] = c.requires.input (ap reads c.in-Sample.is) in
