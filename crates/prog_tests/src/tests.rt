@@ -2,5 +2,6 @@ mod counts;
 mod cuts;
 mod faults;
 mod modes;
+mod parts;
 mod reading;
 mod traces;
