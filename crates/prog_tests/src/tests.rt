@@ -3,5 +3,6 @@ mod cuts;
 mod edges;
 mod faults;
 mod modes;
+mod parts;
 mod reading;
 mod traces;

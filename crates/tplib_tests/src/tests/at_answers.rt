@@ -1,5 +1,5 @@
 //! Answers of `tangent`.
-use super::ending::ends_so;
+use super::ending::each_ends_so;
 use std::test::Fail;
 
 // Systems with a row that solves them, and what `tangent` writes.
@@ -164,34 +164,12 @@ const NO_SOLUTIONS: [(&str, &str); 9] = [
 
 #[test]
 fn tangent_hypergraphs_types_and_extremality(rt: HostRuntime) -> Result<(), Fail> {
-    let alloc = rt.alloc();
-    for (input, answer) in &SOLUTIONS {
-        let ends = ends_so(
-            alloc,
-            "tangent",
-            input.as_bytes(),
-            0,
-            answer.as_bytes(),
-            b"",
-        )?;
-        assert!(rt; ends, "{input}{answer}");
-    }
+    assert!(rt; each_ends_so(rt.alloc(), "tangent", 0, &SOLUTIONS)?);
     Ok(())
 }
 
 #[test]
 fn rows_that_are_no_solutions(rt: HostRuntime) -> Result<(), Fail> {
-    let alloc = rt.alloc();
-    for (input, answer) in &NO_SOLUTIONS {
-        let ends = ends_so(
-            alloc,
-            "tangent",
-            input.as_bytes(),
-            1,
-            answer.as_bytes(),
-            b"",
-        )?;
-        assert!(rt; ends, "{input}{answer}");
-    }
+    assert!(rt; each_ends_so(rt.alloc(), "tangent", 1, &NO_SOLUTIONS)?);
     Ok(())
 }

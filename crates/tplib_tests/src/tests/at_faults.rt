@@ -1,5 +1,5 @@
 //! Files of a vector with inequalities, at fault.
-use super::ending::ends_so;
+use super::ending::each_ends_so;
 use std::test::Fail;
 
 // Files of a system and a row that are at fault, and the line that `tangent` writes to the sink of errors.
@@ -186,17 +186,6 @@ const FAULTS: [(&str, &str); 49] = [
 
 #[test]
 fn files_of_a_row_at_fault(rt: HostRuntime) -> Result<(), Fail> {
-    let alloc = rt.alloc();
-    for (input, answer) in &FAULTS {
-        let ends = ends_so(
-            alloc,
-            "tangent",
-            input.as_bytes(),
-            3,
-            b"",
-            answer.as_bytes(),
-        )?;
-        assert!(rt; ends, "{input}{answer}");
-    }
+    assert!(rt; each_ends_so(rt.alloc(), "tangent", 3, &FAULTS)?);
     Ok(())
 }

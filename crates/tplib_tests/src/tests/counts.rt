@@ -30,6 +30,15 @@ fn is_met(alloc: Global, case: &Case) -> Result<bool, Fail> {
     ends_so(alloc, case.words, &input, case.code, out, err)
 }
 
+fn are_met(alloc: Global, cases: &[Case]) -> Result<bool, Fail> {
+    for case in cases {
+        if !is_met(alloc, case)? {
+            return Ok(false);
+        }
+    }
+    Ok(true)
+}
+
 // Up to 4,096 lines of generators are read, and one more is not.
 const GENERATORS: [Case; 21] = [
     Case {
@@ -704,48 +713,18 @@ const ROWS: [Case; 8] = [
 
 #[test]
 fn at_most_4096_lines_of_generators(rt: HostRuntime) -> Result<(), Fail> {
-    let alloc = rt.alloc();
-    for case in &GENERATORS {
-        assert!(rt;
-            is_met(alloc, case)?,
-            "{} .. {}{}{}",
-            case.line,
-            case.last,
-            case.out,
-            case.err
-        );
-    }
+    assert!(rt; are_met(rt.alloc(), &GENERATORS)?);
     Ok(())
 }
 
 #[test]
 fn at_most_1024_inequalities(rt: HostRuntime) -> Result<(), Fail> {
-    let alloc = rt.alloc();
-    for case in &INEQUALITIES {
-        assert!(rt;
-            is_met(alloc, case)?,
-            "{} .. {}{}{}",
-            case.line,
-            case.last,
-            case.out,
-            case.err
-        );
-    }
+    assert!(rt; are_met(rt.alloc(), &INEQUALITIES)?);
     Ok(())
 }
 
 #[test]
 fn at_most_1024_inequalities_before_a_row(rt: HostRuntime) -> Result<(), Fail> {
-    let alloc = rt.alloc();
-    for case in &ROWS {
-        assert!(rt;
-            is_met(alloc, case)?,
-            "{} .. {}{}{}",
-            case.line,
-            case.last,
-            case.out,
-            case.err
-        );
-    }
+    assert!(rt; are_met(rt.alloc(), &ROWS)?);
     Ok(())
 }

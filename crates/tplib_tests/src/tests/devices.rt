@@ -172,27 +172,11 @@ fn a_sink_that_fails_at_each_call_in_turn(rt: HostRuntime) -> Result<(), Fail> {
 
 // A run, its code, and what it leaves in its two sinks.
 const RUNS: [(Run, u8, &str, &str); 13] = [
+    (REDUCE, 0, REDUCED, ""),
     (
         Run {
-            words: "reduce",
-            input: POINTS,
-            room: 256,
-            read_fails: 0,
-            write_fails: 0,
-            err_fails: 0,
-        },
-        0,
-        REDUCED,
-        "",
-    ),
-    (
-        Run {
-            words: "reduce",
-            input: POINTS,
-            room: 256,
             read_fails: 6,
-            write_fails: 0,
-            err_fails: 0,
+            ..REDUCE
         },
         0,
         REDUCED,
@@ -200,12 +184,8 @@ const RUNS: [(Run, u8, &str, &str); 13] = [
     ),
     (
         Run {
-            words: "reduce",
-            input: POINTS,
-            room: 256,
-            read_fails: 0,
             write_fails: 8,
-            err_fails: 0,
+            ..REDUCE
         },
         0,
         REDUCED,
@@ -213,38 +193,25 @@ const RUNS: [(Run, u8, &str, &str); 13] = [
     ),
     (
         Run {
-            words: "reduce",
-            input: POINTS,
             room: 50,
-            read_fails: 0,
-            write_fails: 0,
             err_fails: 1,
+            ..REDUCE
         },
         0,
         REDUCED,
         "",
     ),
     (
-        Run {
-            words: "reduce",
-            input: POINTS,
-            room: 49,
-            read_fails: 0,
-            write_fails: 0,
-            err_fails: 0,
-        },
+        Run { room: 49, ..REDUCE },
         7,
         "kind gens\nsemiring max\nvars x\npoint [0]\npoint [2]",
         "tplib: write failed\n",
     ),
     (
         Run {
-            words: "reduce",
-            input: POINTS,
             room: 4,
-            read_fails: 0,
-            write_fails: 0,
             err_fails: 1,
+            ..REDUCE
         },
         7,
         "kind",
@@ -252,12 +219,9 @@ const RUNS: [(Run, u8, &str, &str); 13] = [
     ),
     (
         Run {
-            words: "reduce",
-            input: POINTS,
-            room: 256,
             read_fails: 5,
             write_fails: 1,
-            err_fails: 0,
+            ..REDUCE
         },
         6,
         "",
@@ -265,12 +229,10 @@ const RUNS: [(Run, u8, &str, &str); 13] = [
     ),
     (
         Run {
-            words: "reduce",
-            input: POINTS,
-            room: 256,
             read_fails: 2,
             write_fails: 1,
             err_fails: 1,
+            ..REDUCE
         },
         6,
         "",
@@ -278,12 +240,10 @@ const RUNS: [(Run, u8, &str, &str); 13] = [
     ),
     (
         Run {
-            words: "reduce",
             input: "kind",
-            room: 256,
             read_fails: 3,
             write_fails: 1,
-            err_fails: 0,
+            ..REDUCE
         },
         3,
         "",
@@ -291,12 +251,10 @@ const RUNS: [(Run, u8, &str, &str); 13] = [
     ),
     (
         Run {
-            words: "reduce",
             input: "kind",
-            room: 256,
             read_fails: 2,
             write_fails: 1,
-            err_fails: 0,
+            ..REDUCE
         },
         6,
         "",
@@ -304,12 +262,10 @@ const RUNS: [(Run, u8, &str, &str); 13] = [
     ),
     (
         Run {
-            words: "reduce",
             input: "",
             room: 0,
-            read_fails: 0,
-            write_fails: 0,
             err_fails: 1,
+            ..REDUCE
         },
         3,
         "",
@@ -318,11 +274,9 @@ const RUNS: [(Run, u8, &str, &str); 13] = [
     (
         Run {
             words: "reduce now",
-            input: POINTS,
-            room: 256,
             read_fails: 1,
             write_fails: 1,
-            err_fails: 0,
+            ..REDUCE
         },
         2,
         "",
@@ -331,11 +285,10 @@ const RUNS: [(Run, u8, &str, &str); 13] = [
     (
         Run {
             words: "analyze delay=2",
-            input: POINTS,
-            room: 256,
             read_fails: 1,
             write_fails: 1,
             err_fails: 1,
+            ..REDUCE
         },
         2,
         "",

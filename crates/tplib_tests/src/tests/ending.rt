@@ -15,22 +15,43 @@ pub(super) fn ends_so(
     out: &[u8],
     err: &[u8],
 ) -> Result<bool, Fail> {
-    let words = split(alloc, words)?;
+    let list = split(alloc, words)?;
     let bytes = Vec::from_slice(alloc, input)?;
-    let mut input = MemSource::new(bytes, 4096, Vec::new(alloc));
+    let mut source = MemSource::new(bytes, 4096, Vec::new(alloc));
     let mut answer = MemSink::new(alloc, 1_048_576, 4096, Vec::new(alloc))?;
     let mut line = MemSink::new(alloc, 256, 64, Vec::new(alloc))?;
-    let status = run(alloc, &words, &mut input, &mut answer, &mut line);
+    let status = run(alloc, &list, &mut source, &mut answer, &mut line);
     same_ending(
         alloc,
+        (words, input),
         (code, out, err),
         (status.code(), answer.bytes(), line.bytes()),
     )
 }
 
-// Whether the code and what was written to both streams is what was wanted; a failure with both, where it is not.
+// The same of each of the inputs, with the text beside it: that of the answer with the codes 0 and 1, and with any other
+// the line of errors.
+pub(super) fn each_ends_so(
+    alloc: Global,
+    words: &str,
+    code: u8,
+    cases: &[(&str, &str)],
+) -> Result<bool, Fail> {
+    for (input, text) in cases {
+        let text = text.as_bytes();
+        let (out, err): (&[u8], &[u8]) = if code <= 1 { (text, b"") } else { (b"", text) };
+        if !ends_so(alloc, words, input.as_bytes(), code, out, err)? {
+            return Ok(false);
+        }
+    }
+    Ok(true)
+}
+
+// Whether the code and what was written to both streams is what was wanted; a failure with both, and with the words and
+// the input, where it is not.
 pub(super) fn same_ending(
     alloc: Global,
+    asked: (&str, &[u8]),
     wanted: (u8, &[u8], &[u8]),
     got: (u8, &[u8], &[u8]),
 ) -> Result<bool, Fail> {
@@ -38,7 +59,9 @@ pub(super) fn same_ending(
         return Ok(true);
     }
     Err(Fail::new(format!(in alloc;
-        "wanted {}: {}{}, got {}: {}{}",
+        "{} on {}: wanted {}: {}{}, got {}: {}{}",
+        asked.0,
+        shown(&asked.1[..asked.1.len().min(400)]),
         wanted.0,
         shown(wanted.1),
         shown(wanted.2),

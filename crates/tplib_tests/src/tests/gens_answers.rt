@@ -1,5 +1,5 @@
 //! Answers of `reduce`.
-use super::ending::ends_so;
+use super::ending::{each_ends_so, ends_so};
 use std::test::Fail;
 
 // Files of generators, and the file that `reduce` writes.
@@ -144,11 +144,7 @@ const ANSWERS: [(&str, &str); 34] = [
 
 #[test]
 fn files_of_generators_are_reduced(rt: HostRuntime) -> Result<(), Fail> {
-    let alloc = rt.alloc();
-    for (input, out) in &ANSWERS {
-        let ends = ends_so(alloc, "reduce", input.as_bytes(), 0, out.as_bytes(), b"")?;
-        assert!(rt; ends, "{input}{out}");
-    }
+    assert!(rt; each_ends_so(rt.alloc(), "reduce", 0, &ANSWERS)?);
     Ok(())
 }
 

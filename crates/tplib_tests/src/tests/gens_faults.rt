@@ -1,5 +1,5 @@
 //! Files of generators, at fault.
-use super::ending::ends_so;
+use super::ending::each_ends_so;
 use std::test::Fail;
 
 // Headers that are at fault, and the line that `reduce` writes to the sink of errors.
@@ -443,20 +443,12 @@ const BODIES: [(&str, &str); 71] = [
 
 #[test]
 fn headers_of_generators_at_fault(rt: HostRuntime) -> Result<(), Fail> {
-    let alloc = rt.alloc();
-    for (input, line) in &HEADERS {
-        let ends = ends_so(alloc, "reduce", input.as_bytes(), 3, b"", line.as_bytes())?;
-        assert!(rt; ends, "{input}{line}");
-    }
+    assert!(rt; each_ends_so(rt.alloc(), "reduce", 3, &HEADERS)?);
     Ok(())
 }
 
 #[test]
 fn rows_of_generators_at_fault(rt: HostRuntime) -> Result<(), Fail> {
-    let alloc = rt.alloc();
-    for (input, line) in &BODIES {
-        let ends = ends_so(alloc, "reduce", input.as_bytes(), 3, b"", line.as_bytes())?;
-        assert!(rt; ends, "{input}{line}");
-    }
+    assert!(rt; each_ends_so(rt.alloc(), "reduce", 3, &BODIES)?);
     Ok(())
 }

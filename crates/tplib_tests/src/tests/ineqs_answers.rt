@@ -1,5 +1,5 @@
 //! Answers of `ext`.
-use super::ending::ends_so;
+use super::ending::each_ends_so;
 use std::test::Fail;
 
 // Files of inequalities, and the file of generators that `ext` writes.
@@ -220,10 +220,6 @@ const ANSWERS: [(&str, &str); 53] = [
 
 #[test]
 fn files_of_inequalities_are_converted(rt: HostRuntime) -> Result<(), Fail> {
-    let alloc = rt.alloc();
-    for (input, out) in &ANSWERS {
-        let ends = ends_so(alloc, "ext", input.as_bytes(), 0, out.as_bytes(), b"")?;
-        assert!(rt; ends, "{input}{out}");
-    }
+    assert!(rt; each_ends_so(rt.alloc(), "ext", 0, &ANSWERS)?);
     Ok(())
 }

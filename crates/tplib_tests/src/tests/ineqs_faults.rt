@@ -1,5 +1,5 @@
 //! Files of inequalities, at fault.
-use super::ending::ends_so;
+use super::ending::each_ends_so;
 use std::test::Fail;
 
 // Files of inequalities that are at fault, and the line that `ext` writes to the sink of errors.
@@ -470,10 +470,6 @@ const FAULTS: [(&str, &str); 120] = [
 
 #[test]
 fn files_of_inequalities_at_fault(rt: HostRuntime) -> Result<(), Fail> {
-    let alloc = rt.alloc();
-    for (input, line) in &FAULTS {
-        let ends = ends_so(alloc, "ext", input.as_bytes(), 3, b"", line.as_bytes())?;
-        assert!(rt; ends, "{input}{line}");
-    }
+    assert!(rt; each_ends_so(rt.alloc(), "ext", 3, &FAULTS)?);
     Ok(())
 }

@@ -27,6 +27,7 @@ fn ends_so(alloc: Global, case: &Case) -> Result<bool, Fail> {
     let status = run(alloc, &words, &mut input, &mut out, &mut err);
     same_ending(
         alloc,
+        (case.words, case.input),
         (case.code, case.out, case.err),
         (status.code(), out.bytes(), err.bytes()),
     )
