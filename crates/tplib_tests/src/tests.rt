@@ -1,9 +1,11 @@
 //! Tables of texts and of runs, a file a kind of input or of fault.
+mod altered;
 mod at_answers;
 mod at_faults;
 mod bad_words;
 mod counts;
 mod devices;
+mod draws;
 mod ending;
 mod gens_answers;
 mod gens_faults;

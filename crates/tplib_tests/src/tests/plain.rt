@@ -2,6 +2,7 @@
 // rows
 // of a row that it keeps and one that it drops, and at the end `reduce`. It gives what `ext` gives.
 
+use super::draws::Draws;
 use super::ending::answer_of;
 use itoa::Buffer;
 use std::alloc::Global;
@@ -55,20 +56,6 @@ const BOOL: Ring = Ring {
 };
 
 const NAMES: [&[u8]; 4] = [b"", b"x", b"y", b"z"];
-
-/// A linear congruence modulo 2^31; a draw is the state without its 16 lowest bits.
-#[derive(Drop)]
-struct Draws {
-    state: u32,
-}
-
-impl Draws {
-    fn next(&mut self) -> u32 {
-        let state = self.state.wrapping_mul(1_103_515_245).wrapping_add(12_345);
-        self.state = state & 0x7fff_ffff;
-        self.state >> 16
-    }
-}
 
 fn times(a: i64, b: i64) -> i64 {
     if a == ZERO || b == ZERO {
@@ -291,7 +278,7 @@ fn generators(alloc: Global, rows: &[Entries], n: usize, ring: Ring) -> Result<V
 // Whether both ways agree on the system of the seed: 1 to 3 variables and 1 to 4 inequalities.
 fn agree(alloc: Global, seed: u32, ring: Ring) -> Result<bool, Fail> {
     let n = seed as usize % 3 + 2;
-    let mut draws = Draws { state: seed };
+    let mut draws = Draws::from_seed(seed);
     let system = system_of(alloc, &mut draws, n, seed % 4 + 1, ring)?;
     let rows = generated(alloc, n, &system)?;
     let plain = answer_of(alloc, "reduce", &generators(alloc, &rows, n, ring)?)?;
