@@ -1,5 +1,5 @@
 -- Which command single words spell: int_understood, ext_understood.
-use Rattle.std.proofs.Common.{◌≡◌, ℕ, List, [], ◌∷◌, codes, inl, inr, refl, ap, sym, subst, arith}
+use Rattle.std.proofs.Common.{◌≡◌, ℕ, true, false, List, [], ◌∷◌, length, codes, inl, inr, refl, ap, sym, subst, arith}
 use Rattle.trop_words.specs.declared.command.Command.{Command}
 use Rattle.trop_words.specs.declared.command.Command.TheVariants.{Reduce, Ext, Int, Tangent, Include, Equal, Join, Meet, Forget, Trace, Analyze, Check, Sample}
 use Rattle.tplib_cmd.specs.declared.status.Status.{Status}
@@ -14,7 +14,8 @@ first_byte ([] ∷ words) = 0
 first_byte ((b ∷ word) ∷ words) = b
 
 int_alone : (command : Command) → IsCommand (codes "int" ∷ []) command → command ≡ plain_int
-int_alone Int h = refl
+int_alone (Int false) h = refl
+int_alone (Int true) h = absurd (omega (arith, ap length h.spelled))
 int_alone Reduce h = absurd (omega (arith, ap first_byte h.spelled))
 int_alone Ext h = absurd (omega (arith, ap first_byte h.spelled))
 int_alone Tangent h = absurd (omega (arith, ap first_byte h.spelled))
@@ -23,7 +24,7 @@ int_alone Equal h = absurd (omega (arith, ap first_byte h.spelled))
 int_alone Join h = absurd (omega (arith, ap first_byte h.spelled))
 int_alone Meet h = absurd (omega (arith, ap first_byte h.spelled))
 int_alone (Forget var) h = absurd (omega (arith, ap first_byte h.spelled.1))
-int_alone (Trace turns) h = absurd h.built
+int_alone (Trace turns) h = absurd (omega (arith, ap first_byte h.spelled.1))
 int_alone (Analyze mode delay narrow) h = absurd h.built
 int_alone Check h = absurd h.built
 int_alone (Sample seed vars rows) h = absurd (omega (arith, ap first_byte h.spelled.4))
@@ -31,14 +32,15 @@ int_alone (Sample seed vars rows) h = absurd (omega (arith, ap first_byte h.spel
 ext_alone : (command : Command) → IsCommand (codes "ext" ∷ []) command → command ≡ Ext
 ext_alone Ext h = refl
 ext_alone Reduce h = absurd (omega (arith, ap first_byte h.spelled))
-ext_alone Int h = absurd (omega (arith, ap first_byte h.spelled))
+ext_alone (Int false) h = absurd (omega (arith, ap first_byte h.spelled))
+ext_alone (Int true) h = absurd (omega (arith, ap first_byte h.spelled))
 ext_alone Tangent h = absurd (omega (arith, ap first_byte h.spelled))
 ext_alone Include h = absurd (omega (arith, ap first_byte h.spelled))
 ext_alone Equal h = absurd (omega (arith, ap first_byte h.spelled))
 ext_alone Join h = absurd (omega (arith, ap first_byte h.spelled))
 ext_alone Meet h = absurd (omega (arith, ap first_byte h.spelled))
 ext_alone (Forget var) h = absurd (omega (arith, ap first_byte h.spelled.1))
-ext_alone (Trace turns) h = absurd h.built
+ext_alone (Trace turns) h = absurd (omega (arith, ap first_byte h.spelled.1))
 ext_alone (Analyze mode delay narrow) h = absurd h.built
 ext_alone Check h = absurd h.built
 ext_alone (Sample seed vars rows) h = absurd (omega (arith, ap first_byte h.spelled.4))

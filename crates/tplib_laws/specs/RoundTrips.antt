@@ -1,5 +1,5 @@
 -- What a second run makes of the text that a first one wrote.
-use Rattle.std.specs.Prelude.{◌≡◌, ◌≤◌, ◌+◌, ℕ, List, length}
+use Rattle.std.specs.Prelude.{◌≡◌, ◌≤◌, ◌+◌, ℕ, false, List, length}
 use Rattle.trop_theory.specs.Semiring.{Semiring}
 use Rattle.trop_theory.specs.Vectors.{rows_size}
 use Rattle.trop_theory.specs.Inequalities.{Inequality, Solves, system_size}
@@ -23,7 +23,7 @@ use Rattle.tplib_cmd.specs.Ends.{Run}
 
 -- the command of the word `int` alone
 abbrev pub plain_int : Command
-plain_int = Int
+plain_int = Int false
 
 -- How a run ends that is to answer with a text of which Right holds, and that stops only where Stops holds: the text was
 -- written, or a proper front of it where a write failed; or nothing was written, at such a stop, where a read failed, or
