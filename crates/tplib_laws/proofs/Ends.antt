@@ -51,8 +51,8 @@ pub record IsTakenBack (command : Command) (text : List ℕ) (said : Said comman
   pub spelled : (meaning_of command).spells text said
   pub only : (other : Said command) → (meaning_of command).spells text other → other ≡ said
   pub sound : (fault : Fault) → (meaning_of command).faulty text fault → ⊥
-  pub right : (yes : Bool) (answer : List ℕ) → (meaning_of command).answers said yes answer →
-      (yes ≡ true) × Right answer
+  pub right : (says : Bool) (answer : List ℕ) → (meaning_of command).answers said says answer →
+      (says ≡ true) × Right answer
   pub stops : (cause : Cause) (stop : Stop) → (meaning_of command).stops said cause stop →
       (cause ≡ OverLimit) × Stops stop
 
@@ -61,12 +61,12 @@ module _ (command : Command) (text : List ℕ) (said : Said command) (Right : Li
   same : (bytes : List ℕ) → IsInput (reads command) run.in_before run.in_after bytes → bytes ≡ text
   same bytes h = known_input run.in_before run.in_after text known (reads command) bytes to.read h
 
-  answered : (bytes : List ℕ) (yes : Bool) (answer : List ℕ) →
+  answered : (bytes : List ℕ) (says : Bool) (answer : List ℕ) →
       IsInput (reads command) run.in_before run.in_after bytes →
-      IsAnswered (meaning_of command) bytes yes answer → (yes ≡ true) × Right answer
-  answered bytes yes answer input h =
+      IsAnswered (meaning_of command) bytes says answer → (says ≡ true) × Right answer
+  answered bytes says answer input h =
       let is = to.only h.said (subst (λ z. (meaning_of command).spells z h.said) (same bytes input) h.spelled) in
-      to.right yes answer (subst (λ s. (meaning_of command).answers s yes answer) is h.answer)
+      to.right says answer (subst (λ s. (meaning_of command).answers s says answer) is h.answer)
 
   stopped : (bytes : List ℕ) (cause : Cause) (stop : Stop) →
       IsInput (reads command) run.in_before run.in_after bytes →

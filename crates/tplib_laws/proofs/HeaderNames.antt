@@ -67,7 +67,11 @@ item_is before us name item =
 -- ---- lists of names
 
 no_names : AreNames []
-no_names = record { each = All-nil (λ text. is_name text ≡ true); distinct = λ i j h k e. absurd (omega arith); few = omega arith }
+no_names = record {
+  each = All-nil (λ text. is_name text ≡ true);
+  distinct = λ i j h k e. absurd (omega arith);
+  few = omega arith;
+}
 
 items_are : (us : List Piece) (before names : List (List ℕ)) → AreItems (Item next_name IsName) before us names →
     AreNames before → length (before ++ names) ≤ 63 → AreNames (before ++ names)

@@ -8,7 +8,7 @@ use Rattle.trop_files.specs.InequalityFiles.{InequalityFile, SpellsInequalities,
 use Rattle.trop_files.proofs.FileLaws.{generator_file_reads}
 use Rattle.trop_files.proofs.InequalityFileLaws.{inequality_file_reads}
 
-value_or : {T W A : Type 0} → A → Reading T W A → A
+abbrev value_or : {T W A : Type 0} → A → Reading T W A → A
 value_or x (Ok p) = p.0
 value_or x (Err miss) = x
 

@@ -46,7 +46,8 @@ module _ {V : Type 0} {R : Semiring V} (laws : SemiringLaws R) where
 
   same_bounds : (n : ℕ) (C : List V → Type 0) (bounds : List (Inequality V)) → IsExternal R n C bounds →
       (fits : HasFewBounds R n C) → fits.bounds ≡ bounds
-  same_bounds n C bounds h fits = IsExternal-unique laws n C C fits.bounds bounds (λ x. (λ c. c, λ c. c)) fits.external h
+  same_bounds n C bounds h fits =
+      IsExternal-unique laws n C C fits.bounds bounds (λ x. (λ c. c, λ c. c)) fits.external h
 
   bounds_few : (n : ℕ) (C : List V → Type 0) (bounds : List (Inequality V)) → IsExternal R n C bounds →
       HasFewBounds R n C → length bounds ≤ most_inequalities

@@ -97,8 +97,8 @@ module _ {V : Type 0} {R : Semiring V} {N : Numbering V} (laws : SemiringLaws R)
     answer_wide : AreWide (length names + 1) c.answer
     answer_wide k d l = (c.canonical.extreme k d l).member.wide
 
-    rows_right : (yes : Bool) (answer : List ℕ) → int_ring.answers names V kind R N c.answer yes answer →
-        (yes ≡ true) × IsBoundsOf (system_file system) answer
+    rows_right : (says : Bool) (answer : List ℕ) → int_ring.answers names V kind R N c.answer says answer →
+        (says ≡ true) × IsBoundsOf (system_file system) answer
     rows_right true answer h = (
       refl,
       Holds-over one (λ V kind R N system. IsBoundsFile kind R N names (Solves R (length names + 1) system) answer)
@@ -132,8 +132,8 @@ module _ {V : Type 0} {R : Semiring V} {N : Numbering V} (laws : SemiringLaws R)
           spelled = spelled;
           only = λ other h. gens_once _ (rows_file 3 c.answer) other spelled h;
           sound = λ fault h. h.first.spelled (rows_file 3 c.answer) spelled;
-          right = λ yes answer h. rows_right yes answer
-              (Holds-at one (λ V kind R N rows. int_ring.answers names V kind R N rows yes answer) c.answer h);
+          right = λ says answer h. rows_right says answer
+              (Holds-at one (λ V kind R N rows. int_ring.answers names V kind R N rows says answer) c.answer h);
           stops = λ cause s h. rows_stop cause s
               (Holds-at one (λ V kind R N rows. int_ring.stops names V kind R N rows cause s) c.answer h);
         })
@@ -146,8 +146,8 @@ module _ {V : Type 0} {R : Semiring V} {N : Numbering V} (laws : SemiringLaws R)
     lengths : (x : List V) → combinations rows x → length x ≡ length names + 1
     lengths x h = IsCombination-length laws (length names + 1) rows x wide h
 
-    bounds_right : (yes : Bool) (answer : List ℕ) → always_yes IsConvertedFile (system_file c.bounds) yes answer →
-        (yes ≡ true) × IsReducedFile (rows_file line rows) answer
+    bounds_right : (says : Bool) (answer : List ℕ) → always_yes IsConvertedFile (system_file c.bounds) says answer →
+        (says ≡ true) × IsReducedFile (rows_file line rows) answer
     bounds_right true answer h = (
       refl,
       Holds-over one (λ V kind R N rows. IsReduced kind R N names rows answer) rows
@@ -177,8 +177,9 @@ module _ {V : Type 0} {R : Semiring V} {N : Numbering V} (laws : SemiringLaws R)
         IsTakenBack Ext text (system_file c.bounds) (IsReducedFile (rows_file line rows))
         (IsFrontStopOf (rows_file line rows))
     ext_takes few small =
-        let spelled = system_read_back kind reversed R N known numbers laws.zero_neutral one names are few_names c.bounds
-        (IsIn-external laws (length names + 1) (combinations rows) lengths c.bounds c.external) few small in
+        let wide = IsIn-external laws (length names + 1) (combinations rows) lengths c.bounds c.external in
+        let spelled = system_read_back kind reversed R N known numbers laws.zero_neutral one names are few_names
+        c.bounds wide few small in
         subst (λ t. IsTakenBack Ext t (system_file c.bounds) (IsReducedFile (rows_file line rows))
         (IsFrontStopOf (rows_file line rows))) (sym c.printed) (record {
           read = refl;

@@ -8,7 +8,7 @@ use Rattle.tplib_cmd.specs.Ends.{Run, Ends, EndsWith}
 use Rattle.tplib_laws.specs.RoundTrips.{plain_int}
 
 -- the first byte of the first word
-first_byte : List (List ℕ) → ℕ
+abbrev first_byte : List (List ℕ) → ℕ
 first_byte [] = 0
 first_byte ([] ∷ words) = 0
 first_byte ((b ∷ word) ∷ words) = b

@@ -25,9 +25,9 @@ use Rattle.tplib_cmd.specs.Ends.{Run}
 abbrev pub plain_int : Command
 plain_int = Int false
 
--- How a run ends that is to answer with a text of which Right holds, and that stops only where Stops holds: the text was
--- written, or a proper front of it where a write failed; or nothing was written, at such a stop, where a read failed, or
--- for want of memory.
+-- How a run ends that is to answer with a text of which Right holds, and that stops only where Stops holds: the text
+-- was written, or a proper front of it where a write failed; or nothing was written, at such a stop, where a read
+-- failed, or for want of memory.
 abbrev pub EndsRightly : (List ℕ → Type 0) → (Stop → Type 0) → Run → Status → Type 0
 EndsRightly Right Stops run Done = (text : List ℕ) × Right text × IsWritten run.out_before run.out_after text
 EndsRightly Right Stops run WriteFault = (text : List ℕ) × Right text × IsCutShort run.out_before run.out_after text

@@ -6,10 +6,11 @@ ghost use Rattle.tplib_cmd.specs.declared.status.Status.{Status};
 ghost use Rattle.tplib_cmd.specs.Ends.{Run, EndsWell, EndsWith};
 ghost use Rattle.tplib_laws.specs.RoundTrips.{plain_int, EndsRightly, FitsGenerators, IsBoundsOf, IsBoundsStopOf, FitsInequalities, IsFrontStopOf};
 
-/// A run of `ext` that ends with status 0, and a run with the word `int` on the text that it wrote, where the numbers of
-/// that text fit a file of generators. The second run answers with the text of the external list of the solutions of the
-/// inequalities that the first one read, and the inequalities of that list have just these solutions. Else it ends with
-/// the stop of that list, with a fault of its source or of its sink, or for want of memory, and with nothing else.
+/// A run of `ext` that ends with status 0, and a run with the word `int` on the text that it wrote, where the numbers
+/// of that text fit a file of generators. The second run answers with the text of the external list of the solutions
+/// of the inequalities that the first one read, and the inequalities of that list have just these solutions. Else it
+/// ends with the stop of that list, with a fault of its source or of its sink, or for want of memory, and with nothing
+/// else.
 pub fn int_takes_back_ext()
     ensures { (run other : Run) (status : Status) (first : EndsWell Ext run true)
         → FitsGenerators first.answered.said → other.in_before.left ≡ Some first.text
