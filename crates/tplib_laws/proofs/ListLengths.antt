@@ -1,12 +1,11 @@
 -- An external list that a file of inequalities may hold has a text that an input may have: external_short. The left
 -- side of each of its inequalities has one term at most.
-use Rattle.std.proofs.Common.{◌≡◌, ◌<◌, ◌≤◌, ◌+◌, ◌*◌, ◌^◌, ℕ, zero, suc, Bool, List, [], ◌∷◌, ◌++◌, map, length, get_or, replicate, set, Option, Some, None, codes, decimal, refl, sym, ap, subst, arith, length-append}
+use Rattle.std.proofs.Common.{◌≡◌, ◌≤◌, ◌+◌, ◌*◌, ℕ, zero, suc, Bool, List, [], ◌∷◌, ◌++◌, length, get_or, replicate, set, Option, Some, None, codes, refl, sym, ap, subst, arith, length-append}
 use Rattle.std.specs.Prelude.{ℤ, pos, negsuc, nat_abs, All}
 use Rattle.std.proofs.lemmas.List.{length-map}
 use Rattle.std.proofs.lemmas.List.Elements.{All-nil, All-cons, All-head, All-tail, All-append, All-map}
 use Rattle.trop_theory.specs.Semiring.{Semiring, SemiringLaws}
 use Rattle.trop_theory.specs.Numbers.{Numbering, NumberLaws}
-use Rattle.trop_theory.specs.Vectors.{row_size}
 use Rattle.trop_theory.specs.Inequalities.{Inequality, IsIn, inequality_size, system_size}
 use Rattle.trop_duality.specs.External.{bound_of, AreBounds, IsExternalUpTo, IsExternal}
 use Rattle.trop_duality.proofs.Bipolar.{IsIn-external}

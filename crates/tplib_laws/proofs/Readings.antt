@@ -1,10 +1,10 @@
 -- A text spells at most one file: gens_once, ineqs_once.
-use Rattle.std.proofs.Common.{◌≡◌, List, [], Result, Ok, Err, sym, ap, ◌∙◌}
+use Rattle.std.proofs.Common.{◌≡◌, List, [], Ok, Err, sym, ap, ◌∙◌}
 use Rattle.trop_grammar.specs.Reading.{Reading}
 use Rattle.trop_grammar.specs.Reads.{Reads, Anything}
 use Rattle.trop_text.specs.Pieces.{Piece}
-use Rattle.trop_files.specs.Generators.{GeneratorFile, SpellsGenerators, generator_file_at}
-use Rattle.trop_files.specs.InequalityFiles.{InequalityFile, SpellsInequalities, inequality_file_at}
+use Rattle.trop_files.specs.Generators.{GeneratorFile, SpellsGenerators}
+use Rattle.trop_files.specs.InequalityFiles.{InequalityFile, SpellsInequalities}
 use Rattle.trop_files.proofs.FileLaws.{generator_file_reads}
 use Rattle.trop_files.proofs.InequalityFileLaws.{inequality_file_reads}
 

@@ -1,5 +1,5 @@
 -- What one of `ext` and `int` wrote, the other one takes back: int_trip, ext_trip.
-use Rattle.std.proofs.Common.{◌≡◌, ◌≤◌, ◌+◌, ℕ, false, true, List, [], ◌∷◌, codes, length, Some, refl, sym, subst, arith}
+use Rattle.std.proofs.Common.{◌≡◌, ◌≤◌, ◌+◌, ℕ, false, true, List, [], ◌∷◌, codes, length, Some, refl, subst}
 use Rattle.trop_theory.specs.Semiring.{Semiring, SemiringLaws}
 use Rattle.trop_theory.specs.Vectors.{rows_size}
 use Rattle.trop_theory.specs.Inequalities.{Inequality, Solves, system_size}
@@ -12,13 +12,12 @@ use Rattle.trop_theory.proofs.Unique.{IsCanonical-unique}
 use Rattle.trop_duality.specs.External.{IsExternal}
 use Rattle.trop_duality.proofs.External.{IsExternal-unique}
 use Rattle.trop_text.specs.Names.{AreNames}
-use Rattle.trop_text.specs.Pieces.{Piece}
 use Rattle.trop_spelling.specs.declared.ring_kind.RingKind.TheVariants.{Max as MaxKind, Min as MinKind, Bool as BoolKind}
 use Rattle.trop_spelling.specs.SpellingLaws.{truth_only}
 use Rattle.trop_spelling.specs.Over.{Over, OverMax, OverMin, OverBool, Holds, max_three, min_three, bool_three}
 use Rattle.trop_files.specs.FileLimits.{AreFileRows}
-use Rattle.trop_files.specs.Generators.{Rows, GeneratorFile, SpellsGenerators, greatest_number}
-use Rattle.trop_files.specs.InequalityFiles.{Systems, InequalityFile, SpellsInequalities, most_inequalities}
+use Rattle.trop_files.specs.Generators.{Rows, GeneratorFile, greatest_number}
+use Rattle.trop_files.specs.InequalityFiles.{Systems, InequalityFile, most_inequalities}
 use Rattle.trop_files.proofs.ReadSizes.{gens_held, ineqs_held}
 use Rattle.trop_words.specs.declared.command.Command.TheVariants.{Ext}
 use Rattle.tplib_reply.specs.declared.stop.Stop.TheVariants as stop

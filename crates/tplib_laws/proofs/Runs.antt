@@ -1,15 +1,12 @@
 -- Equal bytes are equal cones, of the files that two runs read: equal_solutions, equal_cones.
 use Rattle.std.proofs.Common.{◌≡◌, ◌≤◌, ◌+◌, ℕ, false, true, List, length, refl, sym, subst, arith}
-use Rattle.std.specs.Prelude.{◌↔◌, Option, ℤ, Bool}
-use Rattle.trop_theory.specs.Semiring.{Semiring}
-use Rattle.trop_theory.specs.Numbers.{Numbering}
-use Rattle.trop_theory.specs.Inequalities.{Inequality, Solves}
+use Rattle.std.specs.Prelude.{◌↔◌}
+use Rattle.trop_theory.specs.Inequalities.{Solves}
 use Rattle.trop_theory.specs.Combinations.{IsCombination}
 use Rattle.trop_theory.proofs.MaxPlusLaws.{max_laws, max_number_laws, max_numeric_laws}
 use Rattle.trop_theory.proofs.MinPlusLaws.{min_laws, min_number_laws, min_numeric_laws}
 use Rattle.trop_theory.proofs.TruthValueLaws.{truth_laws, truth_number_laws}
 use Rattle.trop_text.specs.Pieces.{Piece}
-use Rattle.trop_spelling.specs.declared.ring_kind.RingKind.{RingKind}
 use Rattle.trop_spelling.specs.declared.ring_kind.RingKind.TheVariants.{Max as MaxKind, Min as MinKind, Bool as BoolKind}
 use Rattle.trop_spelling.specs.SpellingLaws.{truth_only}
 use Rattle.trop_spelling.specs.Over.{Over, OverMax, OverMin, OverBool, Holds}

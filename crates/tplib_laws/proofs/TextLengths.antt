@@ -1,14 +1,14 @@
 -- The bytes of what is printed. A list of generators that a file may hold has a text that an input may have.
 -- Index: AreShort, number_short, element_short, comma_short, lines_short, AreShortNames, names_short, header_short,
 -- gens_short.
-use Rattle.std.proofs.Common.{◌≡◌, ◌<◌, ◌≤◌, ◌+◌, ◌*◌, ◌^◌, ℕ, zero, suc, Bool, true, false, ◌&&◌, not, List, [], ◌∷◌, ◌++◌, map, length, Option, Some, None, codes, decimal, nat_le, refl, sym, ap, subst, arith, length-append}
+use Rattle.std.proofs.Common.{◌≡◌, ◌≤◌, ◌+◌, ◌*◌, ℕ, suc, Bool, true, false, ◌&&◌, not, List, [], ◌∷◌, ◌++◌, map, length, Option, Some, None, codes, decimal, nat_le, refl, arith, length-append}
 use Rattle.std.specs.Prelude.{ℤ, pos, negsuc, nat_abs, All}
 use Rattle.std.specs.Fmt.{signed_decimal}
 use Rattle.std.proofs.Math.Nat.{mul-suc}
 use Rattle.std.proofs.lemmas.Fmt.{length-decimal-le}
 use Rattle.std.proofs.lemmas.List.{length-map}
 use Rattle.std.proofs.lemmas.List.Elements.{All-nil, All-cons, All-head, All-tail}
-use Rattle.trop_theory.specs.Semiring.{Semiring, SemiringLaws}
+use Rattle.trop_theory.specs.Semiring.{Semiring}
 use Rattle.trop_theory.specs.Numbers.{Numbering, NumberLaws}
 use Rattle.trop_theory.specs.Vectors.{AreWide, row_size, rows_size}
 use Rattle.trop_scalar.specs.MaxPlus.{magnitude}

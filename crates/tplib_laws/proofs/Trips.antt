@@ -1,6 +1,6 @@
 -- What the printed list of a cone is taken back as, over any of the three semirings.
-use Rattle.std.proofs.Common.{◌≡◌, ◌≤◌, ◌+◌, ℕ, Bool, true, false, List, length, refl, sym, subst, arith}
-use Rattle.std.specs.Prelude.{◌↔◌, All}
+use Rattle.std.proofs.Common.{◌≡◌, ◌≤◌, ◌+◌, ℕ, Bool, true, false, List, length, refl, sym, subst}
+use Rattle.std.specs.Prelude.{◌↔◌}
 use Rattle.trop_theory.specs.Semiring.{Semiring, SemiringLaws}
 use Rattle.trop_theory.specs.Numbers.{Numbering, NumberLaws}
 use Rattle.trop_theory.specs.Vectors.{AreWide, rows_size}
@@ -13,7 +13,7 @@ use Rattle.trop_duality.proofs.Bipolar.{IsIn-external}
 use Rattle.trop_text.specs.Names.{AreNames}
 use Rattle.trop_spelling.specs.declared.ring_kind.RingKind.{RingKind}
 use Rattle.trop_spelling.specs.Spelling.{KindLaws}
-use Rattle.trop_spelling.specs.Over.{Over, Embedding, IsOneOfThree, Holds}
+use Rattle.trop_spelling.specs.Over.{Embedding, IsOneOfThree, Holds}
 use Rattle.trop_spelling.proofs.EachKind.{Holds-over}
 use Rattle.trop_files.specs.Generators.{Rows, GeneratorFile, most_generators, greatest_number}
 use Rattle.trop_files.specs.InequalityFiles.{Systems, InequalityFile, most_inequalities}
@@ -22,11 +22,10 @@ use Rattle.trop_files.proofs.WrittenSystems.{system_read_back}
 use Rattle.trop_words.specs.declared.command.Command.TheVariants.{Ext}
 use Rattle.tplib_reply.specs.declared.stop.Stop.{Stop}
 use Rattle.tplib_reply.specs.declared.stop.Stop.TheVariants as stop
-use Rattle.tplib_reply.specs.Meaning.{Cause, OverLimit, OutOfRange, at_rows, at_rows_or_polars, always_yes}
+use Rattle.tplib_reply.specs.Meaning.{Cause, OverLimit, OutOfRange, at_rows, always_yes}
 use Rattle.tplib_cones.specs.ConeFiles.{IsConeFile}
 use Rattle.tplib_cones.specs.Reduce.{IsReduced, IsReducedFile}
 use Rattle.tplib_cones.specs.Ext.{IsConverted, IsConvertedFile, IsConversionStop}
-use Rattle.tplib_poly.specs.InRing.{stops_over, answers_over}
 use Rattle.tplib_poly.specs.Bounds.{IsBoundsFile, IsBoundsStop}
 use Rattle.tplib_poly.specs.Int.{int_ring}
 use Rattle.trop_cones.specs.RowStops.{IsRowsStop}

@@ -1,5 +1,5 @@
 -- Where no front of a system is the first over the limit, the canonical list of its solutions is within it.
-use Rattle.std.proofs.Common.{◌≡◌, ◌<◌, ◌≤◌, ◌⊎◌, ℕ, zero, suc, List, length, take, ⊎_elim, inl, inr, sym, subst, arith}
+use Rattle.std.proofs.Common.{◌<◌, ◌≤◌, ◌⊎◌, ℕ, zero, suc, List, length, take, ⊎_elim, sym, subst, arith}
 use Rattle.std.proofs.lemmas.List.{take_all}
 use Rattle.trop_theory.specs.Semiring.{Semiring}
 use Rattle.trop_theory.specs.Inequalities.{Inequality, Solves}

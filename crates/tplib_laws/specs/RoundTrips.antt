@@ -1,5 +1,5 @@
 -- What a second run makes of the text that a first one wrote.
-use Rattle.std.specs.Prelude.{◌≡◌, ◌≤◌, ◌+◌, ℕ, false, List, length}
+use Rattle.std.specs.Prelude.{◌≤◌, ◌+◌, ℕ, false, List, length}
 use Rattle.trop_theory.specs.Semiring.{Semiring}
 use Rattle.trop_theory.specs.Vectors.{rows_size}
 use Rattle.trop_theory.specs.Inequalities.{Inequality, Solves, system_size}
@@ -43,7 +43,7 @@ EndsRightly Right Stops run (Range stop) = ⊥
 
 -- ---- from inequalities to generators and back
 
--- the numbers of the canonical list of the cone are no greater than those of a file may be
+-- the numbers of the canonical list of the cone are no greater than a file may hold
 pub record HasSmallRows {V : Type 0} (R : Semiring V) (cone : List V → Type 0) : Type 0 where
   pub rows : List (List V)
   pub canonical : IsCanonical R cone rows
@@ -68,7 +68,7 @@ IsBoundsStopOf file _ = ⊥
 
 -- ---- from generators to inequalities and back
 
--- the external list of the cone in n coordinates has no more inequalities, and no greater numbers, than a file may have
+-- the external list of the cone in n coordinates has no more inequalities, and no greater numbers, than a file may hold
 pub record HasFewBounds {V : Type 0} (R : Semiring V) (n : ℕ) (cone : List V → Type 0) : Type 0 where
   pub bounds : List (Inequality V)
   pub external : IsExternal R n cone bounds
