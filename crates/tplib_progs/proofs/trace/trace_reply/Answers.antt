@@ -1,4 +1,4 @@
-use Rattle.std.proofs.Common.{◌≡◌, ◌∙◌, ap, map, subst}
+use Rattle.std.proofs.Common.{◌∙◌, ap, map, subst}
 use Rattle.prog_lang.specs.TraceOutcomes.{trace_file_of}
 use Rattle.prog_theory.specs.Named.{nameless}
 use Rattle.prog_run.specs.Shown.{shown}
