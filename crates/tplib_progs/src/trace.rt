@@ -22,7 +22,7 @@ pub fn trace_reply(alloc: Global, turns: u32, bytes: &[u8]) -> Result<Reply, Ref
 {
     let file = read_trace_file(alloc, bytes)?;
     let (start, choices) = (file.start.as_slice(), file.choices.as_slice());
-    let run = trace(alloc, &file.program, start, choices, turns)?;
-    let text = run_text(alloc, &run)?;
+    let traced = trace(alloc, &file.program, start, choices, turns)?;
+    let text = run_text(alloc, &traced)?;
     Ok(Reply { yes: true, text })
 }
