@@ -10,12 +10,12 @@ bounds_of-requires g c = subst (λ n. AreFileRows g.S.Scalar.ring n c.args.file.
 
 pub returns-in_err-bounds-clause-refused : goal.returns-in_err-bounds-clause-refused
 returns-in_err-bounds-clause-refused g c =
-    bounds_stopped g.S.Spelling.KIND g.S.Scalar.numbering c.args.file.now.names c.args.file.now.gens.rows
+    bounds_stopped g.S.Spelling.KIND g.S.Scalar.ring g.S.Scalar.numbering c.args.file.now.names c.args.file.now.gens.rows
     c.args.file.now.gens.n c.requires.width _ c.in_err-bounds.ensures.refused
 
 pub returns-in-Err-clause-refused : goal.returns-in-Err-clause-refused
 returns-in-Err-clause-refused g c =
-    lean_stopped g.S.Spelling.KIND g.S.Scalar.numbering c.args.file.now.names c.args.file.now.gens.rows
+    lean_stopped g.S.Spelling.KIND g.S.Scalar.ring g.S.Scalar.numbering c.args.file.now.names c.args.file.now.gens.rows
     c.args.file.now.gens.n c.requires.width c.in_ok-bounds.bounds.inequalities c.in_ok-bounds.ensures.bounds
     c.in_ok-bounds.bounds.n c.in_ok-bounds.ensures.width c.in-Err.e c.refusal.result c.refusal.ensures
     c.in-Err.ensures.stopped
@@ -28,7 +28,7 @@ print_lean-requires-clause-one_each g c = c.in-Ok.ensures.certified.one_each
 
 pub returns-clause-reply : goal.returns-clause-reply
 returns-clause-reply g c =
-    lean_reply_is g.S.Spelling.KIND g.S.Scalar.numbering c.args.file.now.names c.args.file.now.gens.rows
+    lean_reply_is g.S.Spelling.KIND g.S.Scalar.ring g.S.Scalar.numbering c.args.file.now.names c.args.file.now.gens.rows
     c.args.file.now.gens.n c.requires.width c.in_ok-bounds.bounds.inequalities c.in_ok-bounds.ensures.bounds
     g.met.S.Scalar.ring_laws c.in_ok-bounds.bounds.n c.in_ok-bounds.ensures.width c.in-Ok.list.kept.inequalities
     c.in-Ok.list.rows.rows c.in_ok-text.text.items
