@@ -43,7 +43,7 @@ no_stop {V} {R} laws n cone bounds told unstopped OverLimit (Lean k j) h =
     (IsExternal-unique laws n cone cone h.bounds bounds (λ x. (λ c. c, λ c. c)) h.external told.external) h.stop)
 no_stop laws n cone bounds told unstopped _ stop h = absurd h
 
-module _ {V : Type 0} {R : Semiring V} (kind : RingKind) (N : Numbering V) (names : List (List ℕ))
+module _ {V : Type 0} (kind : RingKind) (R : Semiring V) (N : Numbering V) (names : List (List ℕ))
     (gens : List (List V)) (m : ℕ) (width : m ≡ length names + 1) where
   abbrev n : ℕ
   n = length names + 1

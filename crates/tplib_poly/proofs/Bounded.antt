@@ -80,7 +80,7 @@ bounds_small size rows n small width few =
 
 -- ---- the answer of `int` on rows in m coordinates
 
-module _ {V : Type 0} {R : Semiring V} (kind : RingKind) (N : Numbering V) (names : List (List ℕ))
+module _ {V : Type 0} (kind : RingKind) (R : Semiring V) (N : Numbering V) (names : List (List ℕ))
     (gens : List (List V)) (m : ℕ) (width : m ≡ length names + 1) where
   abbrev n : ℕ
   n = length names + 1

@@ -1,5 +1,8 @@
-use Rattle.std.proofs.Common.{◌≡◌, ◌≤◌, ◌++◌, ◌∙◌, codes, length, drop, ap, arith}
+use Rattle.std.proofs.Common.{◌≡◌, ◌≤◌, ◌++◌, ◌∙◌, codes, length, drop, ap, sym, subst, arith}
+use Rattle.std.specs.Prelude.{All}
 use Rattle.std.proofs.lemmas.List.{append-nil}
+use Rattle.trop_theory.specs.Inequalities.{IsIn}
+use Rattle.trop_lean.proofs.Standing.{inside_at}
 use Rattle.trop_files.specs.PrintedFiles.{printed_header, printed_ineqs}
 use Rattle.trop_spelling.proofs.Printing.{two_more, all_done}
 use Rattle.tplib_lean.specs.Printed.{lean_lines, printed_lean}
@@ -16,6 +19,14 @@ loop-k-init g c =
     ap (λ t. t ++ lean_lines kind N names kept rows)
     (c.in_ok-text.ensures.text ∙ ap (printed_ineqs kind N names) c.new.ensures.inequalities
     ∙ append-nil (printed_header (codes "ineqs") kind names))
+
+pub push_bound-requires : goal.push_bound-requires
+push_bound-requires g c =
+    let kept = c.as_slice-kept.result.now in
+    let wide = subst (All (IsIn c.args.list.now.kept.n)) (sym c.as_slice-kept.ensures.inequalities)
+    c.as_slice-kept.ensures.wide in
+    (inside_at c.args.list.now.kept.n kept c.loop-k.k c.index-kept-k.result wide (omega arith) c.index-kept-k.is).left
+    ∙ c.requires.names
 
 pub loop-k-preserved : goal.loop-k-preserved
 loop-k-preserved g c =

@@ -23,8 +23,8 @@ returns-in-Ok-clause-small g c =
     let width = c.in_ok-cone.ensures.width in
     bounds_small _ _ c.in_ok-cone.cone.n c.in_ok-cone.ensures.small (omega arith) c.in-Ok.ensures.small
 
-pub returns-in-Err-clause-refused : goal.returns-in-Err-clause-refused
-returns-in-Err-clause-refused g c =
+pub returns-clause-refused : goal.returns-clause-refused
+returns-clause-refused g c =
     bounds_refused g.met.S.Scalar.ring_laws c.args.gens.now.n _ c.in_ok-cone.cone.rows c.in_ok-cone.ensures.holds
     c.in_ok-cone.cone.n c.in_ok-cone.ensures.width c.in-Err.e c.refusal.result c.refusal.ensures
     c.in-Err.ensures.refused

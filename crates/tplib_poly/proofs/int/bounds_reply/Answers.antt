@@ -1,4 +1,5 @@
 use Rattle.std.proofs.Common.{◌∙◌, sym, subst}
+use Rattle.std.proofs.lemmas.Result.{err_from_is_err_and}
 use Rattle.trop_files.specs.FileLimits.{AreFileRows}
 use Rattle.tplib_poly.proofs.Bounded.{int_reply_is, int_refused}
 use Rattle.tplib_poly.proofs.int.bounds_reply.Goals as goal
@@ -12,11 +13,12 @@ print_ineqs-requires g c = c.in_ok-bounds.ensures.width ∙ c.requires.width
 
 pub returns-in_err-bounds-clause-refused : goal.returns-in_err-bounds-clause-refused
 returns-in_err-bounds-clause-refused g c =
-    int_refused g.S.Spelling.KIND g.S.Scalar.numbering c.args.file.now.names c.args.file.now.gens.rows
-    c.args.file.now.gens.n c.requires.width _ c.in_err-bounds.ensures.refused
+    let p = err_from_is_err_and c.from_residual.result c.from_residual.ensures.1 in
+    rw (p.1, p.2) (int_refused g.S.Spelling.KIND g.S.Scalar.ring g.S.Scalar.numbering c.args.file.now.names
+    c.args.file.now.gens.rows c.args.file.now.gens.n c.requires.width _ c.in_err-bounds.ensures.refused)
 
 pub returns-clause-reply : goal.returns-clause-reply
 returns-clause-reply g c =
-    int_reply_is g.S.Spelling.KIND g.S.Scalar.numbering c.args.file.now.names c.args.file.now.gens.rows
+    int_reply_is g.S.Spelling.KIND g.S.Scalar.ring g.S.Scalar.numbering c.args.file.now.names c.args.file.now.gens.rows
     c.args.file.now.gens.n c.requires.width c.in_ok-bounds.bounds.inequalities c.in_ok-text.text.items
     c.in_ok-bounds.ensures.bounds c.in_ok-text.ensures.text
