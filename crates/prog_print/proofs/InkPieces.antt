@@ -1,7 +1,7 @@
 -- The pieces of tokens that are inks, with what stands before each, are the inks.
 -- Index: IsInked, inked.
 use Rattle.trop_text.specs.declared.fault.FaultKind.TheVariants.{Syntax, NumberRange}
-use Rattle.std.proofs.Common.{◌≡◌, ◌≤◌, ◌<◌, ◌+◌, ◌^◌, ℕ, zero, suc, Bool, true, false, List, [], ◌∷◌, ◌++◌, length, codes, Ok, Err, cond, refl, sym, ap, subst, ◌∙◌, append_assoc, arith, decimal, nat_le}
+use Rattle.std.proofs.Common.{◌≡◌, ◌≤◌, ◌<◌, ◌^◌, ℕ, Bool, true, false, List, [], ◌∷◌, ◌++◌, Ok, Err, cond, refl, sym, ap, subst, ◌∙◌, append_assoc, arith, decimal, nat_le}
 use Rattle.std.specs.Prelude.{◌==◌, ◌||◌, ◌&&◌}
 use Rattle.std.specs.List.{list_all}
 use Rattle.std.specs.Str.{bytes_eq}
@@ -19,12 +19,12 @@ use Rattle.trop_text.specs.Pieces.{Piece, Token, LineEnd, pieces_from}
 use Rattle.trop_text.proofs.Numbers.{number_of-decimal}
 use Rattle.shape_grammar.specs.Past.{past}
 use Rattle.prog_theory.specs.Limits.{Limits}
-use Rattle.prog_texts.specs.Words.{Before, Counted, skipped, says, one_more, behind, counted, begins_statement, begins_atom}
-use Rattle.prog_texts.specs.Judges.{coordinate, number, is_one_too_many, is_atom_too_many}
+use Rattle.prog_texts.specs.Words.{Before, Counted, skipped, one_more, counted, begins_statement, begins_atom}
+use Rattle.prog_texts.specs.Judges.{coordinate}
 use Rattle.prog_texts.specs.Inks.{Ink, Says, Name, Number, Blank, Feed, name_text}
 use Rattle.prog_texts.specs.Inked.{IsWithin, IsInk, AreInks}
 use Rattle.prog_texts.proofs.Runs.{ended_keeps}
-use Rattle.prog_print.proofs.Walks.{Edge, Apart, Wordy, edge_of, edge_of_word, IsSound, Walks, after, after_ink, after_inks}
+use Rattle.prog_print.proofs.Walks.{Edge, Apart, Wordy, edge_of_word, IsSound, Walks, after, after_ink, after_inks}
 use Rattle.prog_print.proofs.PlainTexts.{itself, chained, one_more-least, name_word, word_digits, decimal_digits, decimal_are_digits}
 use Rattle.prog_print.proofs.Lexing.{HaveTexts}
 

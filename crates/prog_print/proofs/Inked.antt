@@ -6,8 +6,8 @@ use Rattle.prog_theory.specs.Conditions.{Cond, Any, Atom, Not, And, Or}
 use Rattle.prog_theory.specs.Statements.{SideWord, One, Greatest, Least, Claim, Stmt, Set, Havoc, Assume, Assert, If, While, Skip, Block, Empty, Then}
 use Rattle.prog_theory.specs.Nesting.{Level, Loose, Tight, Single, is_single, not_loose}
 use Rattle.prog_theory.specs.Named.{Named}
-use Rattle.prog_texts.specs.Inks.{Ink, Says, Name, Number, Blank, Feed, ink_text, inks_text, name_text}
-use Rattle.prog_texts.specs.Printed.{constant_inks, added_inks, moved_inks, term_inks, cmp_text, bracketed, between, cond_inks, rel_text, more_inks, terms_inks, side_inks, claim_inks, indent, ended, closing, else_inks, stmt_inks, block_inks, names_inks, program_inks, printed}
+use Rattle.prog_texts.specs.Inks.{Ink, Says, Name, Blank, Feed, ink_text, inks_text, name_text}
+use Rattle.prog_texts.specs.Printed.{constant_inks, added_inks, moved_inks, term_inks, cmp_text, bracketed, between, cond_inks, rel_text, more_inks, terms_inks, side_inks, claim_inks, indent, ended, closing, else_inks, stmt_inks, block_inks, names_inks, printed}
 use Rattle.prog_print.specs.Texts.{constant_text, shift_text, moved_text, term_text, where_so, cond_text, more_text, terms_text, side_text, claim_text, indent_text, else_text, end_text, stmt_text, block_text, names_text, program_text}
 
 module _ (names : List (List ℕ)) where

@@ -1,22 +1,22 @@
 -- The bytes of inks are lexed as their texts.
 -- Index: Stops, HaveTexts, IsLexedAs, lexes.
-use Rattle.std.proofs.Common.{◌≡◌, ◌≤◌, ◌<◌, ◌+◌, ◌^◌, ℕ, zero, suc, Bool, true, false, List, [], ◌∷◌, ◌++◌, map, length, codes, refl, sym, ap, subst, ◌∙◌, append_assoc, arith, decimal}
+use Rattle.std.proofs.Common.{◌≡◌, ◌≤◌, ◌<◌, ◌+◌, ◌^◌, ℕ, Bool, true, false, List, [], ◌∷◌, ◌++◌, map, length, codes, refl, sym, ap, subst, ◌∙◌, append_assoc, arith, decimal}
 use Rattle.std.specs.Prelude.{not}
 use Rattle.std.specs.List.{list_all}
 use Rattle.std.proofs.lemmas.Bool.Decides.{nat_tests}
 use Rattle.trop_text.specs.Bytes.{is_letter, is_digit, is_word_byte}
 use Rattle.trop_text.specs.Lexed.{are_digits}
-use Rattle.trop_text.specs.Name.{is_name, is_word}
+use Rattle.trop_text.specs.Name.{is_word}
 use Rattle.trop_text.specs.Tokens.{Tok, kind_of, tail_len, sign_len, tokens_past}
-use Rattle.trop_text.specs.Pieces.{Piece, Token}
+use Rattle.trop_text.specs.Pieces.{Token}
 use Rattle.trop_text.specs.declared.token.TokenKind.{TokenKind}
 use Rattle.trop_text.specs.declared.token.TokenKind.TheVariants.{Word, Digits, Sign}
 use Rattle.trop_text.proofs.Signs.{and_first}
 use Rattle.trop_text.proofs.Written.{tok, IsOne, IsLexed}
-use Rattle.trop_text.proofs.WrittenTokens.{StopsWord, IsShort, IsLong, word_written, digits_written, short_written, long_written}
+use Rattle.trop_text.proofs.WrittenTokens.{StopsWord, word_written, digits_written, short_written, long_written}
 use Rattle.prog_texts.specs.Words.{Before}
 use Rattle.prog_texts.specs.Inks.{Ink, Says, Name, Number, Blank, Feed, name_text, ink_text, inks_text}
-use Rattle.prog_print.proofs.Walks.{Edge, Apart, Wordy, Open, edge_of_word, edge_of, goes_further, begins_further, may_follow, IsOpening, IsAlone, IsToken, IsSound, Walks, after_ink, last_edge}
+use Rattle.prog_print.proofs.Walks.{Edge, Apart, Wordy, Open, edge_of_word, goes_further, begins_further, may_follow, IsOpening, IsToken, IsSound, Walks, after_ink, last_edge}
 use Rattle.prog_print.proofs.PlainTexts.{name_word, decimal_are_digits}
 
 -- what follows goes on with no sign

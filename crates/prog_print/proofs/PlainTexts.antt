@@ -1,7 +1,7 @@
 -- The texts of names and of numbers: they are none of the words and signs, and begin no statement where no name may.
 -- Index: itself, at_most, chained, plus_none, chained_plus, one_more-least, one_more-most, IsPlain, plain_unasked,
 -- some_statement, name_plain, name_word, word_digits, decimal_digits, decimal_are_digits, number_plain.
-use Rattle.std.proofs.Common.{◌≡◌, ◌≤◌, ◌<◌, ◌+◌, ◌^◌, ℕ, zero, suc, Bool, true, false, List, [], ◌∷◌, length, codes, refl, sym, ap, subst, ◌∙◌, arith, decimal}
+use Rattle.std.proofs.Common.{◌≡◌, ◌≤◌, ◌<◌, ◌+◌, ◌^◌, ℕ, Bool, true, false, List, [], ◌∷◌, length, codes, refl, sym, ap, subst, ◌∙◌, arith, decimal}
 use Rattle.std.specs.Prelude.{◌&&◌, ◌||◌, not}
 use Rattle.std.specs.Int.{IsInRange}
 use Rattle.std.specs.List.{list_all}

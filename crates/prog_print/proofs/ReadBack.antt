@@ -1,6 +1,6 @@
 -- What is printed is read back.
 -- Index: IsAsPrinted, as_printed, printed_spelled.
-use Rattle.std.proofs.Common.{◌≡◌, ◌≤◌, ◌<◌, ◌+◌, ◌^◌, ℕ, zero, suc, Bool, true, false, cond, Some, None, List, [], ◌∷◌, ◌++◌, length, length-append, get_or, codes, Ok, refl, sym, ap, subst, ◌∙◌, append_assoc, append-nil, arith, nat_le}
+use Rattle.std.proofs.Common.{◌≡◌, ◌≤◌, ◌<◌, ◌+◌, ◌^◌, ℕ, zero, suc, Bool, true, false, cond, None, List, [], ◌∷◌, ◌++◌, length, length-append, get_or, Ok, refl, sym, ap, subst, ◌∙◌, append_assoc, append-nil, arith, nat_le}
 use Rattle.std.specs.Prelude.{not}
 use Rattle.std.specs.List.{position, position_or_len}
 use Rattle.std.specs.Str.{bytes_eq}

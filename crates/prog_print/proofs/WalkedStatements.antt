@@ -1,24 +1,24 @@
 -- Statements and programs walk: their tokens stand apart, and as many statements and atoms begin as they have.
 -- Index: IsRest, Ended, stmt_walks, block_walks, names_walks, program_walks.
-use Rattle.std.proofs.Common.{◌≡◌, ◌≤◌, ◌<◌, ◌+◌, ◌^◌, ℕ, zero, suc, Bool, true, false, List, [], ◌∷◌, ◌++◌, length, codes, refl, sym, ap, subst, ◌∙◌, arith}
-use Rattle.std.specs.Prelude.{All, ◌&&◌, not}
+use Rattle.std.proofs.Common.{◌≡◌, ◌≤◌, ◌<◌, ◌+◌, ◌^◌, ℕ, zero, suc, true, false, List, [], ◌∷◌, ◌++◌, length, codes, refl, sym, subst, arith}
+use Rattle.std.specs.Prelude.{All}
 use Rattle.trop_text.specs.Name.{is_name, is_word}
 use Rattle.trop_text.specs.Names.{AreNames}
 use Rattle.trop_text.proofs.WrittenTokens.{IsShort, IsLong}
-use Rattle.prog_theory.specs.Statements.{Claim, Stmt, Set, Havoc, Assume, Assert, If, While, Skip, Block, Empty, Then}
+use Rattle.prog_theory.specs.Statements.{Stmt, Set, Havoc, Assume, Assert, If, While, Skip, Block, Empty, Then}
 use Rattle.prog_theory.specs.Nesting.{Loose}
 use Rattle.prog_theory.specs.Named.{Named}
-use Rattle.prog_theory.specs.Fits.{IsVariable, FitsTerm, FitsStmt, FitsBlock}
+use Rattle.prog_theory.specs.Fits.{FitsStmt, FitsBlock}
 use Rattle.prog_theory.specs.Each.{EachStmt, EachBlock, EachClaim, EachClaims}
 use Rattle.prog_theory.specs.Within.{IsClaim, IsNumberWithin}
 use Rattle.prog_theory.specs.Numbering.{count, counts}
 use Rattle.prog_theory.specs.Atoms.{cond_atoms, stmt_atoms, block_atoms}
-use Rattle.prog_texts.specs.Words.{Before, nothing_before, is_fresh, is_asking}
-use Rattle.prog_texts.specs.Inks.{Ink, Says, Name, Number, Blank, Feed, name_text}
-use Rattle.prog_texts.specs.Printed.{term_inks, cond_inks, claim_inks, indent, ended, closing, else_inks, stmt_inks, block_inks, names_inks, program_inks}
-use Rattle.prog_print.proofs.Walks.{Edge, Apart, Wordy, Open, edge_of_word, IsToken, IsSound, Walks, walks_more, walks_as, after}
+use Rattle.prog_texts.specs.Words.{Before, nothing_before, is_asking}
+use Rattle.prog_texts.specs.Inks.{Ink, Says, Blank, Feed, name_text}
+use Rattle.prog_texts.specs.Printed.{term_inks, cond_inks, claim_inks, indent, closing, else_inks, stmt_inks, block_inks, names_inks, program_inks}
+use Rattle.prog_print.proofs.Walks.{Edge, Apart, Wordy, edge_of_word, IsToken, Walks, walks_more, walks_as, after}
 use Rattle.prog_print.proofs.PlainTexts.{name_plain, name_word, word_digits, plain_unasked, some_statement, itself, chained, plus_none, chained_plus}
-use Rattle.prog_print.proofs.WalkedTerms.{IsQuiet, IsCalm, IsSolid, Done, blank_follows, solid_follows, open_alone, name_sound, unasked_walks, cond_walks, claim_walks}
+use Rattle.prog_print.proofs.WalkedTerms.{IsQuiet, IsSolid, Done, blank_follows, solid_follows, name_sound, unasked_walks, cond_walks, claim_walks}
 
 semicolon_alone : IsShort 59
 semicolon_alone = record {

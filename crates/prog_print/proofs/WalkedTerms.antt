@@ -1,11 +1,10 @@
 -- Terms, conditions and claims walk: their tokens stand apart, and as many atoms begin as a condition has.
 -- Index: IsQuiet, IsCalm, IsFree, IsSolid, Done, blank_follows, solid_follows, free_follows, name_sound, asked_walks,
 -- unasked_walks, cond_walks, claim_walks.
-use Rattle.std.proofs.Common.{◌≡◌, ◌≤◌, ◌<◌, ◌+◌, ◌^◌, ℕ, zero, suc, ℤ, pos, negsuc, Bool, true, false, List, [], ◌∷◌, ◌++◌, length, get_or, codes, Ok, refl, sym, ap, subst, ◌∙◌, arith, decimal}
+use Rattle.std.proofs.Common.{◌≡◌, ◌≤◌, ◌<◌, ◌+◌, ◌^◌, ℕ, zero, suc, ℤ, pos, negsuc, Bool, true, false, List, [], ◌∷◌, ◌++◌, length, codes, refl, ap, subst, arith, decimal}
 use Rattle.std.specs.Prelude.{All, unsigned_abs, ◌&&◌, ◌||◌, ◌==◌, not}
 use Rattle.std.proofs.lemmas.Bool.Decides.{nat_tests}
-use Rattle.trop_text.specs.Lexed.{are_digits}
-use Rattle.trop_text.specs.Name.{is_name, is_word}
+use Rattle.trop_text.specs.Name.{is_word}
 use Rattle.trop_text.specs.Names.{AreNames}
 use Rattle.trop_text.specs.Tokens.{is_long_sign}
 use Rattle.trop_text.proofs.WrittenTokens.{IsShort, IsLong}
@@ -14,16 +13,16 @@ use Rattle.prog_theory.specs.States.{Term}
 use Rattle.prog_theory.specs.Conditions.{Cmp, Le, Lt, Ge, Gt, Eq, Ne, Cond, Any, Atom, Not, And, Or}
 use Rattle.prog_theory.specs.Statements.{Rel, AtMost, AtLeast, Same, SideWord, One, Greatest, Least, Claim}
 use Rattle.prog_theory.specs.Nesting.{Level, Loose, Tight, Single, is_single, not_loose}
-use Rattle.prog_theory.specs.Fits.{IsVariable, FitsTerm, FitsCond}
+use Rattle.prog_theory.specs.Fits.{FitsTerm, FitsCond}
 use Rattle.prog_theory.specs.Each.{EachTerm}
 use Rattle.prog_theory.specs.Within.{IsSide, IsClaim, IsNumberWithin}
 use Rattle.prog_theory.specs.Atoms.{cond_atoms}
 use Rattle.prog_texts.specs.Words.{Before, one_more, is_fresh, is_asking}
 use Rattle.prog_texts.specs.Judges.{coordinate}
-use Rattle.prog_texts.specs.Inks.{Ink, Says, Name, Number, Blank, Feed, name_text}
+use Rattle.prog_texts.specs.Inks.{Ink, Says, Name, Number, Blank, name_text}
 use Rattle.prog_texts.specs.Printed.{constant_inks, added_inks, moved_inks, term_inks, cmp_text, bracketed, between, cond_inks, rel_text, more_inks, terms_inks, side_inks, claim_inks}
 use Rattle.prog_print.proofs.Walks.{Edge, Apart, Wordy, Open, goes_further, begins_further, edge_of_word, may_follow, IsOpening, IsSound, Walks, walks_more, walks_as, after}
-use Rattle.prog_print.proofs.PlainTexts.{IsPlain, name_plain, number_plain, plain_unasked, one_more-most, itself, at_most, chained, plus_none}
+use Rattle.prog_print.proofs.PlainTexts.{name_plain, number_plain, plain_unasked, one_more-most, itself, at_most, chained, plus_none}
 
 -- ---- signs
 

@@ -1,7 +1,7 @@
 -- Inks one behind the other: each is a token that does not run into the one before, and what stands before the next.
 -- Index: Edge, edge_of, may_follow, IsOpening, IsToken, after, after_ink, IsSound, Walks, walks_more, walks_as,
 -- after_inks, last_edge, walked.
-use Rattle.std.proofs.Common.{◌≡◌, ◌≤◌, ℕ, Bool, true, false, cond, List, [], ◌∷◌, ◌++◌, codes, Ok, refl, decimal}
+use Rattle.std.proofs.Common.{◌≡◌, ◌≤◌, ℕ, Bool, true, false, List, [], ◌∷◌, ◌++◌, codes, Ok, decimal}
 use Rattle.std.specs.Prelude.{◌==◌, ◌||◌, not, if◌then◌else◌}
 use Rattle.std.specs.Str.{bytes_eq}
 use Rattle.trop_text.specs.Bytes.{is_letter, is_digit, is_line_feed, is_blank, is_hash}

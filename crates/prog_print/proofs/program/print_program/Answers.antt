@@ -1,4 +1,4 @@
-use Rattle.std.proofs.Common.{◌≡◌, ◌++◌, List, ap, sym, subst, ◌∙◌}
+use Rattle.std.proofs.Common.{◌++◌, ap, sym, subst, ◌∙◌}
 use Rattle.prog_theory.specs.Limits.{program_limits}
 use Rattle.prog_texts.specs.Words.{program_pieces}
 use Rattle.prog_texts.specs.Programs.{IsWholeProgram}

@@ -1,4 +1,4 @@
-use Rattle.std.proofs.Common.{◌≡◌, ◌++◌, OnOk, subst}
+use Rattle.std.proofs.Common.{◌≡◌, OnOk, subst}
 use Rattle.prog_print.proofs.Inked.{whole_program}
 use Rattle.prog_print.proofs.program.push_program.Goals as goal
 
