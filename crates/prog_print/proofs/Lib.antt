@@ -1,0 +1,9 @@
+pub mod Loops
+pub mod Inked
+pub mod Walks
+pub mod PlainTexts
+pub mod Lexing
+pub mod InkPieces
+pub mod WalkedTerms
+pub mod WalkedStatements
+pub mod ReadBack
