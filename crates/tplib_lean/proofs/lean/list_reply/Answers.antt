@@ -1,4 +1,4 @@
-use Rattle.std.proofs.Common.{◌≡◌, ◌∙◌, sym, subst}
+use Rattle.std.proofs.Common.{◌∙◌, sym, subst}
 use Rattle.trop_theory.specs.Vectors.{AreWide}
 use Rattle.std.proofs.lemmas.Result.{err_from_is_err_and}
 use Rattle.trop_files.specs.FileLimits.{AreFileRows}
