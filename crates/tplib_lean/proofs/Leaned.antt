@@ -5,7 +5,6 @@ use Rattle.trop_theory.specs.Numbers.{Numbering}
 use Rattle.trop_theory.specs.Vectors.{AreWide}
 use Rattle.trop_theory.specs.Inequalities.{Inequality, Solves}
 use Rattle.trop_theory.specs.Combinations.{IsCombination}
-use Rattle.trop_duality.specs.External.{IsExternal}
 use Rattle.trop_duality.specs.Lean.{IsLean, Certifies}
 use Rattle.trop_duality.specs.LeanStops.{IsLeanStop}
 use Rattle.trop_duality.proofs.External.{IsExternal-unique}
@@ -22,7 +21,7 @@ use Rattle.tplib_poly.specs.Bounds.{AreBoundsOf, IsBoundsRefusal}
 use Rattle.tplib_poly.specs.InRing.{IsRingReply, IsRingRefusal}
 use Rattle.tplib_lean.specs.Refusals.{refusal_of}
 use Rattle.tplib_lean.specs.Printed.{printed_lean}
-use Rattle.tplib_lean.specs.Lean.{IsLeanStopOf, LeanStops, lean_ring}
+use Rattle.tplib_lean.specs.Lean.{LeanStops, lean_ring}
 
 -- what is known of the lean list of a system in n coordinates
 pub record Leaned {V : Type 0} (R : Semiring V) (n : ℕ) (system kept : List (Inequality V)) (rows : List (List V)) :

@@ -22,7 +22,7 @@ use Rattle.tplib_reply.specs.declared.refusal.Refusal.TheVariants as refusals
 use Rattle.tplib_reply.proofs.Unstopped.{at_rows_or_polars-none}
 use Rattle.tplib_poly.specs.InRing.{IsRingReply, IsRingRefusal}
 use Rattle.tplib_poly.specs.Refusals.{refusal_of}
-use Rattle.tplib_poly.specs.Bounds.{IsBoundsFile, IsBoundsStop, AreBoundsOf, IsBoundsRefusal}
+use Rattle.tplib_poly.specs.Bounds.{IsBoundsStop, AreBoundsOf, IsBoundsRefusal}
 use Rattle.tplib_poly.specs.Int.{int_ring}
 
 -- what is known of the external list of a canonical list in n coordinates

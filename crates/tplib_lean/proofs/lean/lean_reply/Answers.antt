@@ -1,4 +1,4 @@
-use Rattle.std.proofs.Common.{subst, IfOk}
+use Rattle.std.proofs.Common.{subst}
 use Rattle.trop_text.specs.Pieces.{pieces_of}
 use Rattle.trop_reading.specs.Outcome.{IsRefusal}
 use Rattle.trop_files.specs.Generators.{SpellsGenerators, generator_file_at}

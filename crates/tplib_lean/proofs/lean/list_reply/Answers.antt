@@ -1,4 +1,4 @@
-use Rattle.std.proofs.Common.{◌≡◌, ◌∙◌, sym, subst}
+use Rattle.std.proofs.Common.{◌∙◌, sym, subst}
 use Rattle.trop_theory.specs.Vectors.{AreWide}
 use Rattle.std.proofs.lemmas.Result.{err_from_is_err_and}
 use Rattle.trop_files.specs.FileLimits.{AreFileRows}
@@ -37,7 +37,7 @@ returns-clause-reply g c =
     (record {
       lean = c.in-Ok.ensures.lean;
       same = c.in-Ok.ensures.same;
-      wide = subst (λ n. AreWide n c.in-Ok.list.rows.rows) c.in-Ok.ensures.row_width c.as_slice-_slice.ensures.wide;
+      wide = subst (λ n. AreWide n c.in-Ok.list.rows.rows) c.in-Ok.ensures.row_width c.as_slice-slice.ensures.wide;
       certified = c.in-Ok.ensures.certified;
       unstopped = c.in-Ok.ensures.unstopped;
     }) c.in_ok-text.ensures

@@ -1,4 +1,4 @@
-use Rattle.std.proofs.Common.{◌≡◌, ◌≤◌, ◌++◌, ◌∙◌, codes, length, drop, ap, sym, subst, arith}
+use Rattle.std.proofs.Common.{◌≡◌, ◌++◌, ◌∙◌, codes, length, drop, ap, sym, subst, arith}
 use Rattle.std.specs.Prelude.{All}
 use Rattle.std.proofs.lemmas.List.{append-nil}
 use Rattle.trop_theory.specs.Inequalities.{IsIn}
@@ -32,9 +32,12 @@ pub loop-k-preserved : goal.loop-k-preserved
 loop-k-preserved g c =
     let kept = c.as_slice-kept.result.now in
     let rows = c.as_slice-rows.result.now in
+    let one_each : length rows ≡ length kept = ap length c.as_slice-rows.ensures.rows ∙ c.requires.one_each
+    ∙ sym (ap length c.as_slice-kept.ensures.inequalities) in
     two_more _ _ _ _ _ _ _ _ c.loop-k.invariant
     (lean_lines_more g.S.Spelling.KIND g.S.Scalar.numbering c.args.names.now kept rows c.loop-k.k
-    c.index-kept-k.result c.index-rows-k.result (omega arith) c.index-kept-k.is (omega arith) c.index-rows-k.is)
+    c.index-kept-k.result c.index-rows-k.result (omega arith) c.index-kept-k.is (omega (arith, one_each))
+    c.index-rows-k.is)
     c.in_ok-push_bound.ensures c.in_ok-push_comment.ensures
 
 pub returns : goal.returns

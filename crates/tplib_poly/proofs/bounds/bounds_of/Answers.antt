@@ -1,4 +1,4 @@
-use Rattle.std.proofs.Common.{◌≤◌, ◌+◌, ◌∙◌, sym, subst, arith}
+use Rattle.std.proofs.Common.{◌∙◌, arith}
 use Rattle.tplib_poly.proofs.Bounded.{bounds_are, bounds_refused, bounds_small}
 use Rattle.tplib_poly.proofs.bounds.bounds_of.Goals as goal
 
