@@ -2,5 +2,8 @@ mod counts;
 mod cuts;
 mod faults;
 mod modes;
+mod parentheses;
+mod printing;
 mod reading;
 mod traces;
+mod words;
