@@ -4,7 +4,7 @@ use std::test::Fail;
 use trop_text::Fault;
 
 // Programs, each with its first fault, or none where it is read.
-const PROGRAMS: [(&str, Option<Fault>); 117] = [
+const PROGRAMS: [(&str, Option<Fault>); 141] = [
     ("vars;", None),
     ("vars x;", None),
     ("vars x y_1 _z;\n# a comment\nskip;", None),
@@ -453,6 +453,111 @@ const PROGRAMS: [(&str, Option<Fault>); 117] = [
         Some(Fault::Syntax {
             line: 1,
             column: 24,
+        }),
+    ),
+    (
+        "vars v1 v2 v3 v4 v5 v6 v7 v8 v9 v10 v11 v12 v13 v14 v15 v16 v17 v18 v19 v20 v21 v22 v23 v24 v25 v26 v27 v28 v29 v30 v31 v32 v33 v34 v35 v36 v37 v38 v39 v40 v41 v42 v43 v44 v45 v46 v47 v48 v49 v50 v51 v52 v53 v54 v55 v56 v57 v58 v59 v60 v61 v62 v63;",
+        None,
+    ),
+    (
+        "vars v1 v2 v3 v4 v5 v6 v7 v8 v9 v10 v11 v12 v13 v14 v15 v16 v17 v18 v19 v20 v21 v22 v23 v24 v25 v26 v27 v28 v29 v30 v31 v32 v33 v34 v35 v36 v37 v38 v39 v40 v41 v42 v43 v44 v45 v46 v47 v48 v49 v50 v51 v52 v53 v54 v55 v56 v57 v58 v59 v60 v61 v62\nv1;",
+        Some(Fault::DuplicateName { line: 2 }),
+    ),
+    (
+        "vars v1 v2 v3 v4 v5 v6 v7 v8 v9 v10 v11 v12 v13 v14 v15 v16 v17 v18 v19 v20 v21 v22 v23 v24 v25 v26 v27 v28 v29 v30 v31 v32 v33 v34 v35 v36 v37 v38 v39 v40 v41 v42 v43 v44 v45 v46 v47 v48 v49 v50 v51 v52 v53 v54 v55 v56 v57 v58 v59 v60 v61 v62 v63\nv64;",
+        Some(Fault::TooManyVars { line: 2 }),
+    ),
+    (
+        "vars v1 v2 v3 v4 v5 v6 v7 v8 v9 v10 v11 v12 v13 v14 v15 v16 v17 v18 v19 v20 v21 v22 v23 v24 v25 v26 v27 v28 v29 v30 v31 v32 v33 v34 v35 v36 v37 v38 v39 v40 v41 v42 v43 v44 v45 v46 v47 v48 v49 v50 v51 v52 v53 v54 v55 v56 v57 v58 v59 v60 v61 v62 v63\nv1;",
+        Some(Fault::TooManyVars { line: 2 }),
+    ),
+    ("vars x\nx;", Some(Fault::DuplicateName { line: 2 })),
+    ("vars;\nx := 1;", Some(Fault::UnknownName { line: 2 })),
+    (
+        "vars x; skip;\nassert 0 = max(x,\ny);",
+        Some(Fault::UnknownName { line: 3 }),
+    ),
+    (
+        "vars x; while ? { if ? { skip; } else {\nhavoc y; } }",
+        Some(Fault::UnknownName { line: 2 }),
+    ),
+    ("vars x; if y == 1 {", Some(Fault::UnknownName { line: 1 })),
+    (
+        "vars x; x :=\n2147483649;",
+        Some(Fault::NumberRange { line: 2 }),
+    ),
+    (
+        "vars x; x := x +\n2147483649 $",
+        Some(Fault::NumberRange { line: 2 }),
+    ),
+    (
+        "vars x; assert x = max(0, x -\n2147483649);",
+        Some(Fault::NumberRange { line: 2 }),
+    ),
+    (
+        "vars x; x := 00000000000000002147483649;",
+        Some(Fault::NumberRange { line: 1 }),
+    ),
+    (
+        "vars x; x := -2147483648; assume x - 2147483648 <= x + 2147483648;",
+        None,
+    ),
+    (
+        "vars x; skip;\n}",
+        Some(Fault::Syntax { line: 2, column: 1 }),
+    ),
+    (
+        "vars x; skip; x",
+        Some(Fault::Syntax { line: 2, column: 1 }),
+    ),
+    ("vars x end", Some(Fault::Syntax { line: 1, column: 8 })),
+    (
+        "vars x; x := end;",
+        Some(Fault::Syntax {
+            line: 1,
+            column: 14,
+        }),
+    ),
+    (
+        "vars x; skip end;",
+        Some(Fault::Syntax {
+            line: 1,
+            column: 14,
+        }),
+    ),
+    (
+        "vars x; if ? { skip; } else { start",
+        Some(Fault::Syntax {
+            line: 1,
+            column: 31,
+        }),
+    ),
+    (
+        "vars x; if end { }",
+        Some(Fault::Syntax {
+            line: 1,
+            column: 12,
+        }),
+    ),
+    (
+        "vars x; while ? end",
+        Some(Fault::Syntax {
+            line: 1,
+            column: 17,
+        }),
+    ),
+    (
+        "vars x; assert start = 1;",
+        Some(Fault::Syntax {
+            line: 1,
+            column: 16,
+        }),
+    ),
+    (
+        "vars x; if ? { } end",
+        Some(Fault::Syntax {
+            line: 1,
+            column: 18,
         }),
     ),
 ];

@@ -4,7 +4,7 @@ use std::test::Fail;
 use trop_text::Fault;
 
 // Programs under a rule for the words of their asserts.
-const MODES: [(&str, AssertRule, Option<Fault>); 7] = [
+const MODES: [(&str, AssertRule, Option<Fault>); 11] = [
     ("vars x; assert max(x) = 1;", AssertRule::MaxOnly, None),
     ("vars x; assert min(x) = 1;", AssertRule::MinOnly, None),
     ("vars x;\nassert x = 1;", AssertRule::MinOnly, None),
@@ -24,6 +24,26 @@ const MODES: [(&str, AssertRule, Option<Fault>); 7] = [
         Some(Fault::AssertMode { line: 3 }),
     ),
     ("vars x;\nassert max(x) = min(x);", AssertRule::Any, None),
+    (
+        "vars;\nassert min",
+        AssertRule::MaxOnly,
+        Some(Fault::AssertMode { line: 2 }),
+    ),
+    (
+        "vars x; if ? { } else { while ? {\nassert x = x;\nassert max(x) <=\nmin(1); } }",
+        AssertRule::MaxOnly,
+        Some(Fault::AssertMode { line: 4 }),
+    ),
+    (
+        "vars x; assert x >= min(x, 1);\nassert y = 2147483649;\n",
+        AssertRule::MinOnly,
+        Some(Fault::UnknownName { line: 2 }),
+    ),
+    (
+        "vars x; assert x >= min(x, 1);\nassert 1 <= max(x);",
+        AssertRule::MinOnly,
+        Some(Fault::AssertMode { line: 2 }),
+    ),
 ];
 
 #[test]
