@@ -30,7 +30,9 @@ const POINTS: [Point; 10] = [
 ];
 
 const LS: u32 = 1;
+
 const N: u32 = 2;
+
 const LD: u32 = 3;
 
 fn term(coord: u32, add: i64) -> Term {
