@@ -5,7 +5,7 @@ ghost use Rattle.trop_theory.specs.Inequalities.{IsIn, InGuard, inequality_size}
 ghost use Rattle.trop_theory.specs.Combinations.{IsCombination};
 ghost use Rattle.trop_theory.specs.Sizes.{most_entry};
 ghost use Rattle.cone_reports.specs.Images.{HasPoint};
-ghost use Rattle.cone_claims.specs.Points.{IsKeptPoint, IsDroppedPoint, HasRight};
+ghost use Rattle.cone_claims.specs.Points.{IsKeptPoint, IsDroppedPoint, HasRight, Shows};
 
 use trop_row::{Gens, Ineq, Row};
 use trop_scalar::{Numeric, Scalar};
@@ -70,44 +70,42 @@ fn has_right<S: Scalar>(row: &Row<S>, ineq: &Ineq<S>, n: u32) -> bool
     ineq.holds(row) && is_finite(row.dot(ineq.right()))
 }
 
-fn some_kept_point<S: Scalar>(rows: &[Row<S>], ineq: &Ineq<S>, n: u32) -> bool
+/// What a row may show of an inequality.
+#[derive(Clone, Copy)]
+pub(crate) enum Shown {
+    /// It is true at the row, whose coordinate 0 is finite.
+    Kept,
+    /// It is false at the row, whose coordinate 0 is finite.
+    Dropped,
+    /// It is true at the row, and its right side has a finite sum there.
+    Right,
+}
+
+// Whether the row shows it.
+fn shows<S: Scalar>(row: &Row<S>, ineq: &Ineq<S>, n: u32, what: Shown) -> bool
+    requires at_least { 1 ≤ n }
+    requires inside { IsIn n ineq.now }
+    requires wide { length row.now ≡ n }
+    requires sizes { row_size S.ring row.now + inequality_size S.ring ineq.now ≤ most_entry }
+    ensures { IsTrue result ↔ Shows S.ring ineq.now what row.now }
+{
+    match what {
+        Shown::Kept => is_kept_point(row, ineq, n),
+        Shown::Dropped => is_dropped_point(row, ineq, n),
+        Shown::Right => has_right(row, ineq, n),
+    }
+}
+
+// Whether some row shows it.
+fn some_shows<S: Scalar>(rows: &[Row<S>], ineq: &Ineq<S>, n: u32, what: Shown) -> bool
     requires at_least { 1 ≤ n }
     requires inside { IsIn n ineq.now }
     requires wide { AreWide n rows.now }
     requires sizes { rows_size S.ring rows.now + inequality_size S.ring ineq.now ≤ most_entry }
-    ensures { IsTrue result ↔ Any (IsKeptPoint S.ring ineq.now) rows.now }
+    ensures { IsTrue result ↔ Any (Shows S.ring ineq.now what) rows.now }
 {
     for row in rows {
-        if is_kept_point(row, ineq, n) {
-            return true;
-        }
-    }
-    false
-}
-
-fn some_dropped_point<S: Scalar>(rows: &[Row<S>], ineq: &Ineq<S>, n: u32) -> bool
-    requires at_least { 1 ≤ n }
-    requires inside { IsIn n ineq.now }
-    requires wide { AreWide n rows.now }
-    requires sizes { rows_size S.ring rows.now + inequality_size S.ring ineq.now ≤ most_entry }
-    ensures { IsTrue result ↔ Any (IsDroppedPoint S.ring ineq.now) rows.now }
-{
-    for row in rows {
-        if is_dropped_point(row, ineq, n) {
-            return true;
-        }
-    }
-    false
-}
-
-fn some_right<S: Scalar>(rows: &[Row<S>], ineq: &Ineq<S>, n: u32) -> bool
-    requires inside { IsIn n ineq.now }
-    requires wide { AreWide n rows.now }
-    requires sizes { rows_size S.ring rows.now + inequality_size S.ring ineq.now ≤ most_entry }
-    ensures { IsTrue result ↔ Any (HasRight S.ring ineq.now) rows.now }
-{
-    for row in rows {
-        if has_right(row, ineq, n) {
+        if shows(row, ineq, n, what) {
             return true;
         }
     }
@@ -123,6 +121,6 @@ pub fn guard_has_point<S: Numeric>(rows: &Gens<S>, ineq: &Ineq<S>) -> bool
 {
     let n = rows.n();
     let list = rows.as_slice();
-    some_kept_point(list, ineq, n)
-        || (some_dropped_point(list, ineq, n) && some_right(list, ineq, n))
+    some_shows(list, ineq, n, Shown::Kept)
+        || (some_shows(list, ineq, n, Shown::Dropped) && some_shows(list, ineq, n, Shown::Right))
 }

@@ -4,19 +4,13 @@
 #![tactic(auto)]
 
 #[cfg(test)]
-mod claims;
-#[cfg(test)]
 mod common;
 #[cfg(test)]
 mod descriptions;
 #[cfg(test)]
 mod elements;
 #[cfg(test)]
-mod errors;
-#[cfg(test)]
 mod hypergraphs;
-#[cfg(test)]
-mod polyhedra;
 #[cfg(test)]
 mod rows;
 #[cfg(test)]

@@ -8,7 +8,7 @@ use trop_scalar::{Flag, MaxInt, MinInt, Scalar};
 
 type NoMemory = AllocError;
 
-pub fn pair<S: Scalar>(alloc: Global, a: S, b: S) -> Result<Row<S>, NoMemory>
+fn pair<S: Scalar>(alloc: Global, a: S, b: S) -> Result<Row<S>, NoMemory>
     ensures { IfOk result (λ row. row ≡ a ∷ b ∷ []) }
 {
     let mut entries = Vec::new(alloc);
@@ -18,7 +18,7 @@ pub fn pair<S: Scalar>(alloc: Global, a: S, b: S) -> Result<Row<S>, NoMemory>
 }
 
 // The points with these coordinates.
-pub fn points<S: Scalar>(alloc: Global, a: S, b: S, c: S) -> Result<Gens<S>, NoMemory>
+fn points<S: Scalar>(alloc: Global, a: S, b: S, c: S) -> Result<Gens<S>, NoMemory>
     ensures width { IfOk result (λ gens. gens.n ≡ 2) }
     ensures rows { IfOk result (λ gens. gens.rows ≡ (S.ring.one ∷ a ∷ []) ∷ (S.ring.one ∷ b ∷ []) ∷
         (S.ring.one ∷ c ∷ []) ∷ []) }

@@ -203,7 +203,11 @@ fn refused(alloc: Global, draws: &mut Draws, valid: &Valid) -> Result<u32, Fail>
         if !is_named(alloc, status, &text)? {
             let shown = std::str::from_utf8(&text).unwrap_or("bytes that are no text");
             return Err(Fail::new(format!(in alloc;
-                "tplib {} ended with {}: {}", valid.words, status.code(), shown)?));
+                "tplib {} ended with {}: {}",
+                valid.words,
+                status.code(),
+                shown
+            )?));
         }
         if matches!(status, Status::Text(_)) {
             count = count.wrapping_add(1);
@@ -218,7 +222,11 @@ fn altered_files(rt: HostRuntime) -> Result<(), Fail> {
     let mut draws = Draws::from_seed(1);
     for valid in &FILES {
         let status = status_of(alloc, &split(alloc, valid.words)?, valid.text.as_bytes())?;
-        assert!(rt; matches!(status, Status::Done | Status::No), "{}", valid.words);
+        assert!(rt;
+            matches!(status, Status::Done | Status::No),
+            "{}",
+            valid.words
+        );
         let refused = refused(alloc, &mut draws, valid)?;
         assert!(rt; 0 < refused && refused < TIMES, "{}", valid.words);
     }

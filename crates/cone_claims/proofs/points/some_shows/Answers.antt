@@ -1,12 +1,12 @@
 use Rattle.std.proofs.Common.{arith, ap, sym, ◌∙◌, true≢false}
 use Rattle.trop_theory.specs.Vectors.{row_size}
 use Rattle.trop_row.proofs.Steps.{rows_size-at}
-use Rattle.cone_claims.specs.Points.{IsDroppedPoint}
+use Rattle.cone_claims.specs.Points.{Shows}
 use Rattle.cone_claims.proofs.Loops.{each_more, none_found}
-use Rattle.cone_claims.proofs.points.some_dropped_point.Goals as goal
+use Rattle.cone_claims.proofs.points.some_shows.Goals as goal
 
-pub is_dropped_point-requires-clause-sizes : goal.is_dropped_point-requires-clause-sizes
-is_dropped_point-requires-clause-sizes g c =
+pub shows-requires-clause-sizes : goal.shows-requires-clause-sizes
+shows-requires-clause-sizes g c =
     let R = g.S.Scalar.ring in
     omega (
       arith,
@@ -18,10 +18,10 @@ is_dropped_point-requires-clause-sizes g c =
 
 pub loop-row-preserved : goal.loop-row-preserved
 loop-row-preserved g c =
-    each_more (λ x. IsDroppedPoint g.S.Scalar.ring c.args.ineq.now x → ⊥) c.args.rows.now c.loop-row.row-index
+    each_more (λ x. Shows g.S.Scalar.ring c.args.ineq.now c.args.what x → ⊥) c.args.rows.now c.loop-row.row-index
     c.row-item.result c.row-item.is (omega arith) c.loop-row.invariant
-    (λ p. true≢false (sym (c.is_dropped_point.ensures.1 p) ∙ c.if-is_dropped_point.false))
+    (λ p. true≢false (sym (c.shows.ensures.1 p) ∙ c.if-shows.false))
 
 pub returns : goal.returns
-returns g c = none_found (IsDroppedPoint g.S.Scalar.ring c.args.ineq.now) c.args.rows.now c.loop-row.row-index
+returns g c = none_found (Shows g.S.Scalar.ring c.args.ineq.now c.args.what) c.args.rows.now c.loop-row.row-index
     (omega arith) c.loop-row.invariant
