@@ -1,6 +1,7 @@
 //! The control graph of the program of the formats page.
-use prog_graph::{Edge, Op, Point, build};
-use prog_lang::{AssertRule, Term, read_program};
+use super::reading::graph_of;
+use prog_graph::{Edge, Op, Point};
+use prog_lang::Term;
 use std::test::Fail;
 
 const PROGRAM: &[u8] = b"vars ls n ld;
@@ -84,10 +85,9 @@ fn edges_wanted() -> [Edge; 12] {
 #[test]
 fn points_edges_and_heads(rt: HostRuntime) -> Result<(), Fail> {
     let alloc = rt.alloc();
-    let Ok(program) = read_program(alloc, PROGRAM, AssertRule::MinOnly) else {
+    let Some(graph) = graph_of(alloc, PROGRAM)? else {
         return Err(Fail::new(format!(in alloc; "the program was not read")?));
     };
-    let graph = build(alloc, &program)?;
     let (points, edges) = (graph.points().as_slice(), graph.edges().as_slice());
     assert_eq!(rt; points, POINTS.as_slice());
     let edges_wanted = edges_wanted();
