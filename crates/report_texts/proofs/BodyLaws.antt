@@ -133,11 +133,8 @@ module _ {V : Type 0} (kind : RingKind) (R : Semiring V) (N : Numbering V) (name
   rest_taken (suc n) s ts body rest g e =
       at (λ t us h q. rest_taken n t us body rest h q) (line_at kind R N names s.place ts) refl e
     where
-      abbrev Later : Type 0
-      Later = (t : Progress V) (us : List Piece) → Good N points numbers t → reads_on n t us ≡ Ok (body, rest) →
-          IsRest t us body rest
-
-      settle : Later → (x : Line V) (us : List Piece) → line_at kind R N names s.place ts ≡ Ok (x, us) →
+      settle : ((t : Progress V) (us : List Piece) → Good N points numbers t → reads_on n t us ≡ Ok (body, rest) →
+          IsRest t us body rest) → (x : Line V) (us : List Piece) → line_at kind R N names s.place ts ≡ Ok (x, us) →
           (o : Option (Outcome V)) → outcome N points numbers s x ≡ o →
           settled ts us o (reads_on n) ≡ Ok (body, rest) → IsRest s ts body rest
       settle later x us line None k q = absurd cc
@@ -171,7 +168,8 @@ module _ {V : Type 0} (kind : RingKind) (R : Semiring V) (N : Numbering V) (name
             is = subst (λ (z : Body V). IsBodyOf N points numbers z) same.0 w.is;
           }
 
-      at : Later → (v : Reading Piece FaultKind (Line V)) → line_at kind R N names s.place ts ≡ v →
+      at : ((t : Progress V) (us : List Piece) → Good N points numbers t → reads_on n t us ≡ Ok (body, rest) →
+          IsRest t us body rest) → (v : Reading Piece FaultKind (Line V)) → line_at kind R N names s.place ts ≡ v →
           on_line ts (outcome N points numbers s) v (reads_on n) ≡ Ok (body, rest) → IsRest s ts body rest
       at later (Err miss) line q = absurd cc
       at later (Ok x) line q = settle later x.0 x.1 line (outcome N points numbers s x.0) refl q
@@ -379,13 +377,13 @@ module _ {V : Type 0} (kind : RingKind) (R : Semiring V) (N : Numbering V) (name
   unfolding body_from
   rest_stops zero ts us vs xs s miss le h e = absurd (omega (arith, le))
   rest_stops (suc n) ts us vs xs s miss le h e =
-      at (λ ws rest ys t less k q. rest_stops n ts ws rest ys t miss less k q) (line_at kind R N names s.place vs) refl e
+      at (λ ws rest ys t less k q. rest_stops n ts ws rest ys t miss less k q)
+      (line_at kind R N names s.place vs) refl e
     where
-      abbrev Later : Type 0
-      Later = (ws rest : List Piece) (ys : List (Line V)) (t : Progress V) → length rest < n → IsAt ts ws rest ys t →
-          reads_on n t rest ≡ Err miss → IsBodyFault kind R N names points numbers ts miss.what miss.rest
-
-      settle : Later → (x : Line V) (rest : List Piece) → line_at kind R N names s.place vs ≡ Ok (x, rest) →
+      settle : ((ws rest : List Piece) (ys : List (Line V)) (t : Progress V) → length rest < n →
+          IsAt ts ws rest ys t → reads_on n t rest ≡ Err miss →
+          IsBodyFault kind R N names points numbers ts miss.what miss.rest) → (x : Line V) (rest : List Piece) →
+          line_at kind R N names s.place vs ≡ Ok (x, rest) →
           (o : Option (Outcome V)) → outcome N points numbers s x ≡ o → settled vs rest o (reads_on n) ≡ Err miss →
           IsBodyFault kind R N names points numbers ts miss.what miss.rest
       settle later x rest line None k q = line_against ts us vs xs s x rest miss h line k q
@@ -399,7 +397,10 @@ module _ {V : Type 0} (kind : RingKind) (R : Semiring V) (N : Numbering V) (name
           (more_at ts us vs xs s l.taken rest x t h l.whole is (goes_on s x t k)) q
       settle later x rest line (Some (Whole b)) k q = absurd cc
 
-      at : Later → (v : Reading Piece FaultKind (Line V)) → line_at kind R N names s.place vs ≡ v →
+      at : ((ws rest : List Piece) (ys : List (Line V)) (t : Progress V) → length rest < n →
+          IsAt ts ws rest ys t → reads_on n t rest ≡ Err miss →
+          IsBodyFault kind R N names points numbers ts miss.what miss.rest) →
+          (v : Reading Piece FaultKind (Line V)) → line_at kind R N names s.place vs ≡ v →
           on_line vs (outcome N points numbers s) v (reads_on n) ≡ Err miss →
           IsBodyFault kind R N names points numbers ts miss.what miss.rest
       at later (Err m) line q =

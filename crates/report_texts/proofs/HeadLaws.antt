@@ -107,6 +107,7 @@ unfolding head_at
 head_reads version =
     Reads-then (word_line_reads (codes "mode") which_mode (sample (codes "max")) InMax refl refl)
     (λ m. Reads-then (number_line_reads (codes "delay") most_delay refl)
-    (λ d. Reads-then (narrow_reads (nat_eq version 2)) (λ k. Reads-then (number_line_reads (codes "passes") most_passes refl)
+    (λ d. Reads-then (narrow_reads (nat_eq version 2))
+    (λ k. Reads-then (number_line_reads (codes "passes") most_passes refl)
     (λ n. Reads-then (said_reads (codes "program") refl) (λ u. Reads-then line_end_reads
     (λ v. Reads-gives (record { mode = m; delay = d; narrow = k; passes = n })))))))

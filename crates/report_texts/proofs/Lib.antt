@@ -12,3 +12,4 @@ pub mod Bits
 pub mod WrittenLines
 pub mod Numbers
 pub mod WrittenReports
+pub mod ReadReports

@@ -46,7 +46,8 @@ module _ {V : Type 0} (kind : RingKind) (R : Semiring V) (N : Numbering V) (name
   pub line_rest_reads : (w : Word V) → Reads Anything (line_rest_at kind R N names w) (IsLineRest kind R N names w)
   unfolding line_rest_at
   line_rest_reads AtWord =
-      Reads-then digits_reads (λ n. Reads-then (Reads-judged Syntax label_word (sample (codes "inner")) (Alone Inner) refl)
+      Reads-then digits_reads (λ n. Reads-then (Reads-judged Syntax label_word (sample (codes "inner"))
+      (Alone Inner) refl)
       (λ w. Reads-then (label_rest_reads w) (λ p. Reads-then line_end_reads (λ u. Reads-gives (At n p)))))
   line_rest_reads ShutWord = Reads-then line_end_reads (λ u. Reads-gives Unreachable)
   line_rest_reads (RowWord c) = Reads-then row_line_reads
@@ -64,7 +65,8 @@ module _ {V : Type 0} (kind : RingKind) (R : Semiring V) (N : Numbering V) (name
   pub line_reads : (place : Place V) →
       Reads Anything (line_at kind R N names place) (IsPlacedLine kind R N names place)
   unfolding line_at
-  line_reads place = Reads-then (Reads-judged Syntax (placed_word R place) (sample (codes "at")) AtWord (at_admitted place))
+  line_reads place = Reads-then (Reads-judged Syntax (placed_word R place) (sample (codes "at")) AtWord
+      (at_admitted place))
       line_rest_reads
 
   -- ---- a line that may stand at a place is a line
@@ -123,7 +125,8 @@ module _ {V : Type 0} (kind : RingKind) (R : Semiring V) (N : Numbering V) (name
     may_row_ok : (x : List V) (place to : Place V) → with_row x place ≡ Some to → may_row place ≡ Ok tt
     may_row_ok x (Opened p) to e = refl
     may_row_ok x (InRows p y rows) to e =
-        few_ok (suc (length rows)) (if_some (nat_lt (suc (length rows)) most_lines) (InRows p y (rows ++ x ∷ [])) to e).0
+        few_ok (suc (length rows)) (if_some (nat_lt (suc (length rows)) most_lines)
+        (InRows p y (rows ++ x ∷ [])) to e).0
     may_row_ok x Outside to e = absurd cc
     may_row_ok x (Shut p) to e = absurd cc
     may_row_ok x (InInvs p y rows i invs) to e = absurd cc
@@ -189,7 +192,8 @@ module _ {V : Type 0} (kind : RingKind) (R : Semiring V) (N : Numbering V) (name
   row_line_last = EndsWith-then (λ row. ended_last row)
 
   inequality_last : EndsWith IsLineEnd (IsInequality kind R N greatest_inv names)
-  inequality_last = EndsWith-then (λ start. EndsWith-then (λ p. EndsWith-then (λ turned. EndsWith-then (λ q. ended_last _))))
+  inequality_last = EndsWith-then (λ start. EndsWith-then
+      (λ p. EndsWith-then (λ turned. EndsWith-then (λ q. ended_last _))))
 
   line_rest_last : (w : Word V) → EndsWith IsLineEnd (IsLineRest kind R N names w)
   line_rest_last AtWord = EndsWith-then (λ n. EndsWith-then (λ w. EndsWith-then (λ p. ended_last (At n p))))

@@ -47,9 +47,10 @@ module _ {V : Type 0} (R : Semiring V) (N : Numbering V) (laws : SemiringLaws R)
 
   -- a vector in normal form stays
   pub normalised_normal : (x : List V) → IsNormal R x → normalised R N x ≡ x
-  normalised_normal x h = ap (λ o. divided R o x) (leading_normal x h) ∙ ap (λ c. scaled R c x) inverse_one ∙ scaled_one x
+  normalised_normal x h = ap (λ o. divided R o x) (leading_normal x h) ∙ ap (λ c. scaled R c x) inverse_one
+      ∙ scaled_one x
 
-  finite_led : (x : List V) (c : V) → leading N x ≡ Some c → has_finite N x ≡ true
+  pub finite_led : (x : List V) (c : V) → leading N x ≡ Some c → has_finite N x ≡ true
   finite_led [] c e = absurd cc
   finite_led (a ∷ x) c e = at (λ q. finite_led x c q) (is_some (N.to a)) refl
     where
@@ -65,12 +66,12 @@ module _ {V : Type 0} (R : Semiring V) (N : Numbering V) (laws : SemiringLaws R)
   -- ---- what a row becomes
 
   -- where the first finite entry stands
-  record IsLed (x : List V) (c : V) : Type 0 where
-    place : ℕ
-    within : place < length x
-    is : entry R x place ≡ c
-    finite : c ≢ R.zero
-    before : (i : ℕ) → i < place → entry R x i ≡ R.zero
+  pub record IsLed (x : List V) (c : V) : Type 0 where
+    pub place : ℕ
+    pub within : place < length x
+    pub is : entry R x place ≡ c
+    pub finite : c ≢ R.zero
+    pub before : (i : ℕ) → i < place → entry R x i ≡ R.zero
 
   finite_is : (a : V) → is_some (N.to a) ≡ true → a ≢ R.zero
   finite_is a e z = let k = sym e ∙ ap (λ y. is_some (N.to y)) z ∙ zero_none in cc
@@ -92,7 +93,7 @@ module _ {V : Type 0} (R : Semiring V) (N : Numbering V) (laws : SemiringLaws R)
       first zero lt = z
       first (suc i) lt = h.before i (omega (arith, lt))
 
-  led_at : (x : List V) (c : V) → leading N x ≡ Some c → IsLed x c
+  pub led_at : (x : List V) (c : V) → leading N x ≡ Some c → IsLed x c
   led_at [] c e = absurd cc
   led_at (a ∷ x) c e = at (λ q. led_at x c q) (is_some (N.to a)) refl e
     where
@@ -139,7 +140,7 @@ module _ {V : Type 0} (R : Semiring V) (N : Numbering V) (laws : SemiringLaws R)
         };
       }
 
-  led_finite : (x : List V) → has_finite N x ≡ true → (c : V) × (leading N x ≡ Some c)
+  pub led_finite : (x : List V) → has_finite N x ≡ true → (c : V) × (leading N x ≡ Some c)
   led_finite [] e = absurd cc
   led_finite (a ∷ x) e = at (λ q. led_finite x q) (is_some (N.to a)) refl e
     where

@@ -37,7 +37,8 @@ mutual
   block_numbers : (b : Block) (p k next hi : ℕ) → k + counts b ≤ hi → Each (Below hi) (places_of p k b next)
   block_numbers Empty p k next hi h = tt
   block_numbers (Then st b) p k next hi h =
-      Each-append (Below hi) (places p k st (entry (p + width st) b next)) (places_of (p + width st) (k + count st) b next)
+      Each-append (Below hi) (places p k st (entry (p + width st) b next))
+      (places_of (p + width st) (k + count st) b next)
       (stmt_numbers st p k (entry (p + width st) b next) hi (omega (arith, h)))
       (block_numbers b (p + width st) (k + count st) next hi (omega (arith, h)))
 

@@ -106,7 +106,8 @@ module _ (rule : AssertRule) where
   unfolding program_part_at
   part_takes ts p rest e =
       let u = uncounted_ok (ended_at rule (part_pieces ts)) p rest e in
-      let h = (ended_reads (length (part_pieces ts))).texts.takes (part_pieces ts) p u.left (all (part_pieces ts)) u.is in
+      let h = (ended_reads (length (part_pieces ts))).texts.takes (part_pieces ts) p u.left
+      (all (part_pieces ts)) u.is in
       record {
         taken = plain h.taken;
         whole = sym (plain_counted nothing_before ts) ∙ ap plain h.whole

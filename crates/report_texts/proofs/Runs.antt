@@ -76,7 +76,8 @@ pub record IsMoved {V : Type 0} (blocks : List (Block V)) (place : Option (Place
   pub place_is : place ≡ Some to
   pub is : s ≡ record { blocks = blocks; place = to }
 
-pub moved_is : {V : Type 0} (blocks : List (Block V)) (o : Option (Place V)) (s : Progress V) → moved blocks o ≡ Some s →
+pub moved_is : {V : Type 0} (blocks : List (Block V)) (o : Option (Place V)) (s : Progress V) →
+    moved blocks o ≡ Some s →
     IsMoved blocks o s
 moved_is blocks None s e = absurd cc
 moved_is blocks (Some place) s e = let k : record { blocks = blocks; place = place } ≡ s = cc in
@@ -139,7 +140,7 @@ module _ {V : Type 0} where
   ending_lines k (Opened p) bs j e = absurd cc
   ending_lines k (Shut p) bs j e = ap (blocks_lines k) (some_is (block p [] [] ∷ []) bs e)
   ending_lines k (InRows p x rows) bs j e =
-      ap (λ (z : List (Line V)). At k p ∷ Row x ∷ z) (sym (append-nil (map Row rows) ) )
+      ap (λ (z : List (Line V)). At k p ∷ Row x ∷ z) (sym (append-nil (map Row rows)))
       ∙ ap (λ (z : List (Line V)). At k p ∷ Row x ∷ z) (sym (append-nil (map Row rows ++ [])))
       ∙ ap (blocks_lines k) (some_is (block p (x ∷ rows) [] ∷ []) bs e)
   ending_lines k (InInvs p x rows i invs) bs j e =

@@ -171,7 +171,12 @@ module _ {V : Type 0} where
     shut_step k (Judging v js) to e = absurd cc
 
     first_row : (x : List V) → has_finite N x ≡ true → IsPart N (x ∷ []) []
-    first_row x f = record { finite = (f, tt); rows_few = omega arith; printed_few = omega arith; none = λ e. absurd cc }
+    first_row x f = record {
+      finite = (f, tt);
+      rows_few = omega arith;
+      printed_few = omega arith;
+      none = λ e. absurd cc;
+    }
 
     further_row : (y : List V) (rows : List (List V)) (x : List V) → has_finite N x ≡ true →
         nat_lt (suc (length rows)) most_lines ≡ true → IsPart N (y ∷ rows) [] → IsPart N (y ∷ (rows ++ x ∷ [])) []
@@ -203,7 +208,12 @@ module _ {V : Type 0} where
 
     first_inv : (y : List V) (rows : List (List V)) (i : Inequality V) → IsPart N (y ∷ rows) [] →
         IsPart N (y ∷ rows) (i ∷ [])
-    first_inv y rows i h = record { finite = h.finite; rows_few = h.rows_few; printed_few = omega arith; none = λ e. absurd cc }
+    first_inv y rows i h = record {
+      finite = h.finite;
+      rows_few = h.rows_few;
+      printed_few = omega arith;
+      none = λ e. absurd cc;
+    }
 
     further_inv : (y : List V) (rows : List (List V)) (k : Inequality V) (invs : List (Inequality V)) (i : Inequality V)
         → nat_lt (suc (length invs)) most_lines ≡ true → IsPart N (y ∷ rows) (k ∷ invs) →
@@ -280,9 +290,11 @@ module _ {V : Type 0} where
     first_step s n v t j g e =
         let b = behind_is s.blocks (ending s.place) (λ bs. first_judged points numbers bs n v) t e in
         let bs = s.blocks ++ b.ended in
-        let m = moved_is bs (cond (nat_eq (length bs) (length points)) (judged numbers 0 (λ j. Judging j []) n v) None) t
+        let m = moved_is bs (cond (nat_eq (length bs) (length points))
+        (judged numbers 0 (λ j. Judging j []) n v) None) t
         b.is in
-        let a = if_more (nat_eq (length bs) (length points)) (judged numbers 0 (λ j. Judging j []) n v) m.to m.place_is in
+        let a = if_more (nat_eq (length bs) (length points))
+        (judged numbers 0 (λ j. Judging j []) n v) m.to m.place_is in
         let w : Judged = record { number = n; proved = v } in
         let q = if_some (is_number n (slice_get numbers 0)) (Judging w []) m.to a.1 in
         let d = ended_good s.blocks s.place b.ended g.left j b.ends g.parts g.place g.points_are in
@@ -292,7 +304,8 @@ module _ {V : Type 0} where
         m.is ∙ ap (λ (z : Place V). record { blocks = bs; place = z }) (sym q.1) in
         subst (IsStep s (Asserted n v)) (sym to) (record {
           good = record { left = g.left; points_are = d.points_are; parts = d.parts; place = (none, h.others, h.is) };
-          lines = ap (λ (z : List (Line V)). z ++ Asserted n v ∷ []) (sym (so_far_ended s.blocks s.place b.ended j b.ends));
+          lines = ap (λ (z : List (Line V)). z ++ Asserted n v ∷ [])
+              (sym (so_far_ended s.blocks s.place b.ended j b.ends));
         })
 
     further_step : (blocks : List (Block V)) (w : Judged) (js : List Judged) (n : ℕ) (v : Bool) (t : Progress V) →
@@ -302,10 +315,12 @@ module _ {V : Type 0} where
     further_step blocks w js n v t g e =
         let m = moved_is blocks (judged numbers (suc (length js)) (λ k. Judging w (js ++ k ∷ [])) n v) t e in
         let u : Judged = record { number = n; proved = v } in
-        let q = if_some (is_number n (slice_get numbers (suc (length js)))) (Judging w (js ++ u ∷ [])) m.to m.place_is in
+        let q = if_some (is_number n (slice_get numbers (suc (length js))))
+        (Judging w (js ++ u ∷ [])) m.to m.place_is in
         let owed = g.place.1 in
         let k = number_is n (slice_get numbers (suc (length js))) q.0 in
-        let len : suc (length js) ≡ length (numbers_in (w ∷ js)) = ap suc (sym (length-map js (λ (j : Judged). j.number))) in
+        let len : suc (length js) ≡ length (numbers_in (w ∷ js)) = ap suc
+        (sym (length-map js (λ (j : Judged). j.number))) in
         let h = next_is (numbers_in (w ∷ js)) owed n
         (sym (ap (slice_get (numbers_in (w ∷ js) ++ owed)) len)
         ∙ ap (λ (z : List ℕ). slice_get z (suc (length js))) (sym g.place.2) ∙ k) in
@@ -325,7 +340,8 @@ module _ {V : Type 0} where
                   (sym (map-append (λ (j : Judged). j.number) js (u ∷ []))),
             );
           };
-          lines = ap (λ (z : List (Line V)). blocks_lines 0 blocks ++ (judged_line w ∷ z)) (map-append judged_line js (u ∷ []))
+          lines = ap (λ (z : List (Line V)). blocks_lines 0 blocks ++ (judged_line w ∷ z))
+              (map-append judged_line js (u ∷ []))
               ∙ sym (append_assoc (blocks_lines 0 blocks) (judged_line w ∷ map judged_line js) (Asserted n v ∷ []));
         })
 

@@ -99,7 +99,8 @@ module _ {V : Type 0} (N : Numbering V) (points : List Point) (numbers : List �
       ∙ ap (λ (z : List (List V)). Some (in_rows bs p x z)) (sym (append-nil before))
   rows_taken bs p x before (y ∷ more) f few =
       let len = length-append before (y ∷ []) in
-      let lt : nat_lt (suc (length before)) most_lines ≡ true = lt-ltb (suc (length before)) most_lines (omega (arith, few)) in
+      let lt : nat_lt (suc (length before)) most_lines ≡ true = lt-ltb (suc (length before)) most_lines
+      (omega (arith, few)) in
       let one : next N points numbers (in_rows bs p x before) (Row y) ≡ Some (in_rows bs p x (before ++ y ∷ [])) =
       rw (f.0, lt) refl in
       one_progress (in_rows bs p x before) (in_rows bs p x (before ++ y ∷ [])) (in_rows bs p x (before ++ y ∷ more))
@@ -115,7 +116,8 @@ module _ {V : Type 0} (N : Numbering V) (points : List Point) (numbers : List �
       ∙ ap (λ (z : List (Inequality V)). Some (in_invs bs p x rows i z)) (sym (append-nil before))
   invs_taken bs p x rows i before (k ∷ more) few =
       let len = length-append before (k ∷ []) in
-      let lt : nat_lt (suc (length before)) most_lines ≡ true = lt-ltb (suc (length before)) most_lines (omega (arith, few)) in
+      let lt : nat_lt (suc (length before)) most_lines ≡ true = lt-ltb (suc (length before)) most_lines
+      (omega (arith, few)) in
       let one : next N points numbers (in_invs bs p x rows i before) (Inv k) ≡
       Some (in_invs bs p x rows i (before ++ k ∷ [])) = rw lt refl in
       one_progress (in_invs bs p x rows i before) (in_invs bs p x rows i (before ++ k ∷ []))
@@ -162,7 +164,8 @@ module _ {V : Type 0} (N : Numbering V) (points : List Point) (numbers : List �
       let le = h.rows_few in
       let lf = h.printed_few in
       let more = rows_taken bs p x [] rows h.finite.1 (omega (arith, le)) in
-      let behind_rows = one_progress (in_rows bs p x rows) (in_invs bs p x rows i []) (in_invs bs p x rows i invs) (Inv i)
+      let behind_rows = one_progress (in_rows bs p x rows) (in_invs bs p x rows i []) (in_invs bs p x rows i invs)
+      (Inv i)
       (map Inv invs) refl (invs_taken bs p x rows i [] invs (omega (arith, lf))) in
       record {
         to = in_invs bs p x rows i invs;
@@ -276,7 +279,8 @@ module _ {V : Type 0} (N : Numbering V) (points : List Point) (numbers : List �
             ∙ complete_taken [] bs len (sym none);
       }
   body_with bs (w ∷ js) len same h =
-      let count : length (w ∷ js) ≡ length numbers = sym (length-map (w ∷ js) (λ (j : Judged). j.number)) ∙ ap length same in
+      let count : length (w ∷ js) ≡ length numbers = sym (length-map (w ∷ js) (λ (j : Judged). j.number))
+      ∙ ap length same in
       let get : slice_get numbers 0 ≡ Some w.number = ap (λ (z : List ℕ). slice_get z 0) (sym same) in
       let one : next N points numbers h.to (judged_line w) ≡ Some (judging bs w []) =
       assert_next h.to.blocks h.to.place h.ready.ended w.number w.proved h.ready.plain h.ready.ends
@@ -352,7 +356,8 @@ module _ {V : Type 0} (N : Numbering V) (points : List Point) (numbers : List �
               ∙ ap (λ (z : List Point). z ++ points_in (dead left)) h.same
               ∙ ap (λ (z : List Point). here place ++ z) (dead_points left)) ∙ sym are;
           numbers_are = unknown_numbers numbers;
-          parts = Each-append (PartOk N) blocks (cs ++ dead left) parts (Each-append (PartOk N) cs (dead left) h.parts (dead_parts left));
+          parts = Each-append (PartOk N) blocks (cs ++ dead left) parts
+              (Each-append (PartOk N) cs (dead left) h.parts (dead_parts left));
         };
         lines = ap (λ (z : List (Line V)). z ++ tail) (blocks_all blocks (cs ++ dead left)
             ∙ ap (λ (z : List (Line V)). blocks_lines 0 blocks ++ z) inner

@@ -116,7 +116,8 @@ unfolding report_at
 report_exact =
     Exact-then version_exact (λ v. Exact-then (Exact-reads (head_reads v))
     (λ h. Exact-then (program_part_exact (rule_of h.mode)) (λ p. Exact-then (Exact-reads line_end_reads)
-    (λ u. Exact-then (body_exact (kind_of h.mode) (ring_of h.mode) numbering p.names (points (nameless p)) (assert_numbers p))
+    (λ u. Exact-then (body_exact (kind_of h.mode) (ring_of h.mode) numbering p.names (points (nameless p))
+    (assert_numbers p))
     (λ body. Exact-then (Exact-reads input_end_reads) (λ w. Exact-gives (report h p body)))))))
 
 pub report_stops : Stops report_at IsReportFault

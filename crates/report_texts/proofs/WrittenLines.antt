@@ -110,7 +110,11 @@ module _ (mode : Mode) (names : List (List ℕ)) (are : AreNames names) where
           back = [];
           value = k;
           whole = refl;
-          first = record { token = Token (tok Digits (decimal k) q.0 q.1); whole = refl; is = digits_pass k q.0 q.1 hk };
+          first = record {
+            token = Token (tok Digits (decimal k) q.0 q.1);
+            whole = refl;
+            is = digits_pass k q.0 q.1 hk;
+          };
           second = record { none = refl; is = refl };
         };
         second = line_ended line x q.2 q.4;
@@ -173,7 +177,8 @@ module _ (mode : Mode) (names : List (List ℕ)) (are : AreNames names) where
   row_line word c os x is passes wide small same =
       let row = map (named (kind_of mode) R numbering) os in
       let text = printed_row (kind_of mode) os in
-      let written = subst (λ n. IsWritten Always text (λ us. IsRow (kind_of mode) R numbering greatest_entry n us row)) wide
+      let written = subst (λ n. IsWritten Always text
+      (λ us. IsRow (kind_of mode) R numbering greatest_entry n us row)) wide
       (row_written R numbering greatest_entry (omega arith) (kind_of mode) os small) in
       written_join (λ us vs g h. behind_word word (Row x) us vs g (λ line t e. record {
         front = t ∷ [];
@@ -214,7 +219,8 @@ module _ (mode : Mode) (names : List (List ℕ)) (are : AreNames names) where
           let k = sym (((number_laws_of mode).none a).1 (before 0 (omega arith))) ∙ e ∙ s in cc
 
   row_written_back : (x : List Element) → IsNormal R x → length x ≡ length names + 1 →
-      row_size R x ≤ greatest_entry → IsWritten StopsWord (row_text (kind_of mode) (numbers numbering x)) (IsOpen mode names (Row x))
+      row_size R x ≤ greatest_entry → IsWritten StopsWord (row_text (kind_of mode) (numbers numbering x))
+      (IsOpen mode names (Row x))
   unfolding line_word
   row_written_back [] h wide s = absurd (omega (arith, wide))
   row_written_back (a ∷ x) h wide s = at (numbering.to a) refl
@@ -269,17 +275,20 @@ module _ (mode : Mode) (names : List (List ℕ)) (are : AreNames names) where
       (number_laws_of mode) (laws_of mode).zero_neutral greatest_inv names (omega arith) are i wide s))
 
   opened : (b : Bit) (bs : List Bit) (x : Line Element) →
-      ((us : List Piece) (line : ℕ) → AreBits (b ∷ bs) us → Ended x line us) → IsWritten StopsWord (bits_text b bs) (AreBits (b ∷ bs)) →
+      ((us : List Piece) (line : ℕ) → AreBits (b ∷ bs) us → Ended x line us) → IsWritten StopsWord (bits_text b bs)
+      (AreBits (b ∷ bs)) →
       IsWritten StopsWord (bits_text b bs) (IsOpen mode names x)
   opened b bs x to g = written_as (λ us h. record { some = bits_some b bs us h; ended = λ line. to us line h })
       (λ rest s. s) g
 
   point_written : (n : ℕ) (p : Point) → n < 2 ^ 64 → FitsPoint p →
-      IsWritten StopsWord (codes "at" ++ (codes " " ++ (decimal n ++ (codes " " ++ label_text p)))) (IsOpen mode names (At n p))
+      IsWritten StopsWord (codes "at" ++ (codes " " ++ (decimal n ++ (codes " " ++ label_text p))))
+      (IsOpen mode names (At n p))
   point_written n (Statement k) hn hk =
       opened (Says (codes "at")) (Counts n ∷ Says (codes "statement") ∷ Counts k ∷ []) (At n (Statement k))
       (λ us line h. at_statement n k us line hn hk h)
-      (bits_written (Says (codes "at")) (Counts n ∷ Says (codes "statement") ∷ Counts k ∷ []) refl (hn, (refl, (hk, tt))))
+      (bits_written (Says (codes "at")) (Counts n ∷ Says (codes "statement") ∷ Counts k ∷ []) refl
+      (hn, (refl, (hk, tt))))
   point_written n Inner hn hk =
       opened (Says (codes "at")) (Counts n ∷ Says (codes "inner") ∷ []) (At n Inner)
       (λ us line h. at_alone n (codes "inner") Inner us line hn (λ l c. refl) h)

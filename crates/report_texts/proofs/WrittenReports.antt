@@ -21,6 +21,7 @@ use Rattle.trop_reading.specs.Words.{said, line_end, input_end, number}
 use Rattle.trop_reading.proofs.WrittenTexts.{number_passes}
 use Rattle.prog_theory.specs.Graph.{Point, points}
 use Rattle.prog_theory.specs.Named.{Named, nameless}
+use Rattle.prog_theory.specs.Numbering.{counts}
 use Rattle.prog_texts.specs.AssertRule.{AssertRule}
 use Rattle.prog_texts.specs.Printed.{printed}
 use Rattle.cone_reports.specs.Reports.{Part}
@@ -69,7 +70,7 @@ number_fits : (n bound : ℕ) → n ≤ bound → bound < 2 ^ 64 → (l c : ℕ)
     number bound (Token (tok (bit_kind (Counts n)) (bit_text (Counts n)) l c)) ≡ Ok n
 number_fits n bound le low l c = number_passes n bound l c le (omega (arith, le, low))
 
-mode_bit : Mode → Bit
+abbrev mode_bit : Mode → Bit
 mode_bit mode = Says (mode_word mode)
 
 mode_passes : (mode : Mode) (l c : ℕ) → which_mode (Token (tok Word (mode_word mode) l c)) ≡ Ok mode
@@ -172,12 +173,12 @@ module _ (mode : Mode) (n : ℕ) where
   part_fits (x ∷ rows) invs h k = (h.0, Each-append Fits (map Row rows) (map Inv invs) h.1 k)
 
   blocks_fit : (k : ℕ) (ps : List Point) (parts : List (Part Element)) → k + length parts < 2 ^ 64 →
-      Each FitsPoint ps → Each (IsPartWithin mode n) parts → Each Fits (blocks_lines k (blocks_of ps parts))
+      Each FitsPoint ps → Each (IsPartWithin mode greatest_entry n) parts → Each Fits
+      (blocks_lines k (blocks_of ps parts))
   blocks_fit k [] parts lt h m = tt
   blocks_fit k (p ∷ ps) [] lt h m = tt
   blocks_fit k (p ∷ ps) (x ∷ parts) lt h m =
-      let w = m.0 in
-      (
+      let w = m.0 in (
         (omega (arith, lt), h.0),
         Each-append Fits (part_lines x.rows x.printed) (blocks_lines (suc k) (blocks_of ps parts))
             (part_fits x.rows x.printed (rows_fit x.rows w.normal w.wide w.small)
@@ -221,7 +222,8 @@ judged_verdicts (n ∷ ns) [] e = absurd (omega (arith, e))
 judged_verdicts (n ∷ ns) (b ∷ verdicts) e =
     ap (λ (z : List Bool). b ∷ z) (judged_verdicts ns verdicts (omega (arith, e)))
 
-blocks_ok : (mode : Mode) (n : ℕ) (ps : List Point) (parts : List (Part Element)) → Each (IsPartWithin mode n) parts →
+blocks_ok : (mode : Mode) (n : ℕ) (ps : List Point) (parts : List (Part Element)) → Each
+    (IsPartWithin mode greatest_entry n) parts →
     Each (λ (b : Block Element). IsPart numbering b.part.rows b.part.printed) (blocks_of ps parts)
 blocks_ok mode n [] parts h = tt
 blocks_ok mode n (p ∷ ps) [] h = tt
@@ -229,7 +231,7 @@ blocks_ok mode n (p ∷ ps) (x ∷ parts) h = (h.0.lines, blocks_ok mode n ps pa
 
 -- ---- the whole
 
-module _ (r : ReportText) (h : IsReportWithin r) (are : AreNames r.program.names)
+module _ (r : ReportText) (h : IsReportWithin greatest_entry r) (are : AreNames r.program.names)
     (few : length r.parts < 2 ^ 64) (program : IsWrittenProgram (rule_of r.mode) r.program) where
   abbrev p : Named
   p = r.program
@@ -246,7 +248,7 @@ module _ (r : ReportText) (h : IsReportWithin r) (are : AreNames r.program.names
 
   lines_fit : Each (FitsLine r.mode (length p.names + 1)) (lines_of body)
   lines_fit =
-      let few_statements = h.program.statements in
+      let few_statements : counts p.body ≤ 400 = h.program.statements in
       Each-append (FitsLine r.mode (length p.names + 1)) (blocks_lines 0 body.blocks)
       (map judged_line body.judged ++ Last ∷ [])
       (blocks_fit r.mode (length p.names + 1) 0 (points (nameless p)) r.parts (omega (arith, few))
@@ -343,7 +345,8 @@ module _ (r : ReportText) (h : IsReportWithin r) (are : AreNames r.program.names
   spelled =
       let w = program.at (body_text ++ []) 7 (λ e. absurd (omega (arith, e))) in
       let after = w.1 in
-      let lines = lines_written r.mode p.names are (lines_of body) w.0 (λ e. absurd (omega (arith, e, after))) lines_fit in
+      let lines = lines_written r.mode p.names are (lines_of body) w.0
+      (λ e. absurd (omega (arith, e, after))) lines_fit in
       let tail = lines_join {K = Behind} program_behind w.2 (lines_as body_behind lines.1) in
       let text = program_text ++ body_text in
       let more = lines_join {K = λ us. Then (IsHead 2) (λ h. Then (IsProgramPart (rule_of h.mode))

@@ -15,9 +15,12 @@ most_narrow = 100
 abbrev pub most_passes : ℕ
 most_passes = 2039201
 
--- the greatest size of a number in a row, and in an `inv` line
+-- the greatest size of a number in a row, of an entry of its normal form, and of a number in an `inv` line
 abbrev pub greatest_entry : ℕ
 greatest_entry = 1099511627776
+
+abbrev pub greatest_normal : ℕ
+greatest_normal = 2199023255552
 
 abbrev pub greatest_inv : ℕ
 greatest_inv = 281474976710656

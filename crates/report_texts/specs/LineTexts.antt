@@ -96,8 +96,8 @@ abbrev pub IsLabelRest : Label → List Piece → Point → Type 0
 IsLabelRest OfStatement = Then (One (Passes digits)) (λ k. Empty (Statement k))
 IsLabelRest (Alone p) = Empty p
 
--- Behind the first word, with the end of the line. Numbers of rows have size at most 2^40, those of inequalities at most
--- 2^48; a row is meant in normal form.
+-- Behind the first word, with the end of the line. Numbers of rows have size at most 2^40, those of inequalities at
+-- most 2^48; a row is meant in normal form.
 abbrev pub IsLineRest : {V : Type 0} → RingKind → Semiring V → Numbering V → List (List ℕ) → Word V → List Piece →
     Line V → Type 0
 IsLineRest kind R N names AtWord =

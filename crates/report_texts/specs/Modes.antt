@@ -1,4 +1,4 @@
--- The two modes of a report, and what each of them is: a semiring of whole numbers with a rule for the words in asserts.
+-- The two modes of a report. Each is a semiring of whole numbers with a rule for the words in asserts.
 use Rattle.std.specs.Prelude.{ℕ, ℤ, Bool, true, false, List, codes, Option}
 use Rattle.trop_theory.specs.Semiring.{Semiring}
 use Rattle.trop_theory.specs.Numbers.{Numbering}
