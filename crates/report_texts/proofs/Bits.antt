@@ -1,6 +1,6 @@
 -- Words and numbers with a blank between each two, and the tokens that they are read as.
 -- Index: Bit, bits_text, AreBits, bits_written, bits_then, bits_end, bits_some.
-use Rattle.std.proofs.Common.{◌≡◌, ◌<◌, ◌≤◌, ◌+◌, ◌^◌, ℕ, Bool, true, List, [], ◌∷◌, ◌++◌, length, codes, Result, Ok, refl, sym, ap, subst, ◌∙◌, append_assoc, append-nil}
+use Rattle.std.proofs.Common.{◌≡◌, ◌<◌, ◌^◌, ℕ, true, List, [], ◌∷◌, ◌++◌, codes, Result, Ok, refl, sym, ap, ◌∙◌}
 use Rattle.std.specs.Prelude.{decimal}
 use Rattle.trop_text.specs.Name.{is_word}
 use Rattle.trop_text.specs.Pieces.{Piece, Token, LineEnd}

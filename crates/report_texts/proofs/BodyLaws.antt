@@ -1,27 +1,27 @@
 -- The lines behind the program are read one after another: what is read, and where the reading stops.
 -- Index: body_exact, body_stops.
-use Rattle.std.proofs.Common.{◌≡◌, ◌≤◌, ◌<◌, ◌+◌, ℕ, zero, suc, Bool, true, false, Option, Some, None, List, [], ◌∷◌, ◌++◌, length, length-append, Ok, Err, refl, sym, ap, subst, ◌∙◌, append_assoc, append-nil, arith}
+use Rattle.std.proofs.Common.{◌≡◌, ◌≤◌, ◌<◌, ℕ, zero, suc, Option, Some, None, List, [], ◌∷◌, ◌++◌, length, length-append, Ok, Err, refl, sym, ap, subst, ◌∙◌, append_assoc, append-nil, arith}
 use Rattle.trop_theory.specs.Semiring.{Semiring}
 use Rattle.trop_theory.specs.Numbers.{Numbering}
 use Rattle.trop_text.specs.Pieces.{Piece, LineEnd}
 use Rattle.trop_text.specs.declared.fault.FaultKind.{FaultKind}
-use Rattle.trop_text.specs.declared.fault.FaultKind.TheVariants.{Syntax, ReportFault}
+use Rattle.trop_text.specs.declared.fault.FaultKind.TheVariants.{ReportFault}
 use Rattle.trop_grammar.specs.Reading.{Reading, Miss}
 use Rattle.trop_grammar.proofs.Whole.{first_fault}
 use Rattle.shape_grammar.specs.Reads.{IsTaken}
 use Rattle.trop_spelling.specs.declared.ring_kind.RingKind.{RingKind}
 use Rattle.prog_theory.specs.Graph.{Point}
 use Rattle.report_texts.specs.Lines.{Line, At, Unreachable, Row, Inv, Asserted, Last, Body, lines_of, IsBodyOf, BeginsBody}
-use Rattle.report_texts.specs.Progress.{Progress, start, next, final, go_on, progress}
+use Rattle.report_texts.specs.Progress.{Progress, start, next, final, progress}
 use Rattle.report_texts.specs.LineTexts.{IsLine, IsPlacedLine, line_at}
 use Rattle.report_texts.specs.Heads.{from_last, against}
 use Rattle.report_texts.specs.Bodies.{AreTexts, IsBody, Outcome, Further, Whole, further, whole, outcome, settled, on_line, body_from, body_at}
 use Rattle.report_texts.specs.Faults.{IsBodyFault, NoLine, Against}
 use Rattle.report_texts.proofs.Exact.{Exact, ok_same, from_last-is}
 use Rattle.report_texts.proofs.Runs.{so_far}
-use Rattle.report_texts.proofs.Steps.{Good, start_good, step, progress_step, final_is, has_step}
+use Rattle.report_texts.proofs.Steps.{Good, start_good, step, final_is, has_step}
 use Rattle.report_texts.proofs.Taken.{then_progress, one_progress, no_progress, body_taken, begun_good}
-use Rattle.report_texts.proofs.LineLaws.{line_reads, placed_is, IsAccepted, AsLast, AsNext, line_placed, line_ends, some_token}
+use Rattle.report_texts.proofs.LineLaws.{line_reads, placed_is, AsLast, AsNext, line_placed, line_ends, some_token}
 
 -- ---- texts one behind the other
 

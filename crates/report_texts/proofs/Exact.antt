@@ -1,11 +1,11 @@
 -- Reading functions that read just the texts of a grammar, whatever follows; and where they stop.
 -- Index: Exact, Exact-reads, Exact-then, Exact-gives, same_value, from_last-is, first_then.
-use Rattle.std.proofs.Common.{◌≡◌, ◌+◌, ◌-◌, ℕ, zero, suc, List, [], ◌∷◌, ◌++◌, length, length-append, Ok, Err, refl, sym, ap, ◌∙◌, append_assoc, inl, inr, arith}
+use Rattle.std.proofs.Common.{◌≡◌, ◌-◌, suc, List, [], ◌∷◌, ◌++◌, length, length-append, Ok, refl, sym, ap, ◌∙◌, append_assoc, arith}
 use Rattle.std.specs.Prelude.{drop}
-use Rattle.trop_grammar.specs.Reading.{Reading, Miss, go_on, read_then, gives}
+use Rattle.trop_grammar.specs.Reading.{Reading, go_on, read_then, gives}
 use Rattle.trop_grammar.specs.Grammar.{Empty, Then}
 use Rattle.trop_grammar.specs.Reads.{Reads, Anything}
-use Rattle.trop_grammar.proofs.Laws.{go_on-ok, go_on-err}
+use Rattle.trop_grammar.proofs.Laws.{go_on-ok}
 use Rattle.shape_grammar.specs.Reads.{IsTaken}
 use Rattle.report_texts.specs.Heads.{from_last}
 

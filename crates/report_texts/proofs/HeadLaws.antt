@@ -1,26 +1,25 @@
 -- The head of a report is read right, and each stop is at the first fault.
 -- Index: digits_reads, word_line_reads, version_exact, version_stops, head_reads.
-use Rattle.std.proofs.Common.{◌≡◌, ◌≤◌, ℕ, Bool, true, false, cond, List, [], ◌∷◌, ◌++◌, codes, Result, Ok, Err, refl, sym, ap, subst, ◌∙◌, append_assoc, arith}
+use Rattle.std.proofs.Common.{◌≡◌, ◌≤◌, ℕ, Bool, true, false, cond, List, ◌++◌, codes, Result, Ok, Err, refl, sym, ap, ◌∙◌, arith}
 use Rattle.std.specs.Prelude.{nat_eq}
 use Rattle.std.proofs.lemmas.Bool.{le-leb}
 use Rattle.trop_text.specs.Pieces.{Piece, Token, LineEnd, InputEnd}
 use Rattle.trop_text.specs.declared.fault.FaultKind.{FaultKind}
-use Rattle.trop_text.specs.declared.fault.FaultKind.TheVariants.{Syntax, ReportFault}
-use Rattle.trop_grammar.specs.Reading.{Reading, Miss, token_at}
+use Rattle.trop_text.specs.declared.fault.FaultKind.TheVariants.{Syntax}
+use Rattle.trop_grammar.specs.Reading.{Reading, token_at}
 use Rattle.trop_grammar.specs.Grammar.{One, Empty, Then}
 use Rattle.trop_grammar.specs.Lists.{Passes}
 use Rattle.trop_grammar.specs.Reads.{Reads, Anything}
 use Rattle.trop_grammar.proofs.Laws.{Reads-then, Reads-gives}
 use Rattle.trop_grammar.proofs.ListLaws.{Reads-judged}
-use Rattle.trop_grammar.proofs.Ends.{LastIs, EndsWith, EndsWith-one, EndsWith-then, EndsWith-gives}
-use Rattle.trop_grammar.proofs.Whole.{first_fault}
+use Rattle.trop_grammar.proofs.Ends.{EndsWith, EndsWith-one, EndsWith-then, EndsWith-gives}
 use Rattle.shape_grammar.specs.Reads.{IsTaken}
 use Rattle.trop_reading.specs.Words.{said, line_end, number}
 use Rattle.trop_reading.proofs.Samples.{sample, nought, said_reads, line_end_reads}
 use Rattle.report_texts.specs.Limits.{most_delay, most_narrow, most_passes}
-use Rattle.report_texts.specs.Modes.{Mode, InMax}
-use Rattle.report_texts.specs.Heads.{digits, Head, is_version, which_mode, IsWordLine, IsReportLine, IsVersion, IsNarrowLine, IsHead, word_line_at, from_last, against, known_version, version_at, narrow_line_at, head_at}
-use Rattle.report_texts.proofs.Exact.{Exact, Exact-reads, read_ok, ok_same, from_last-is}
+use Rattle.report_texts.specs.Modes.{InMax}
+use Rattle.report_texts.specs.Heads.{digits, is_version, which_mode, IsWordLine, IsReportLine, IsVersion, IsNarrowLine, IsHead, word_line_at, against, known_version, version_at, narrow_line_at, head_at}
+use Rattle.report_texts.proofs.Exact.{Exact, ok_same}
 
 pub digits_reads : Reads Anything (token_at Syntax digits) (One (Passes digits))
 digits_reads = Reads-judged Syntax digits nought 0 refl

@@ -1,21 +1,17 @@
 -- The lines behind the program are read right.
 -- Index: line_rest_reads, line_reads, line_ends, placed_is, line_placed, some_token.
-use Rattle.std.proofs.Common.{◌≡◌, ◌≤◌, ◌<◌, ◌+◌, ℕ, zero, suc, Bool, true, false, cond, Option, Some, None, List, [], ◌∷◌, ◌++◌, length, length-append, codes, Result, Ok, Err, refl, sym, ap, subst, ◌∙◌, append_assoc, arith, lt-ltb, ltb-true}
-use Rattle.std.specs.Prelude.{nat_lt, nat_eq}
+use Rattle.std.proofs.Common.{◌≡◌, ◌<◌, ℕ, suc, Bool, true, cond, Some, List, [], ◌∷◌, ◌++◌, length, length-append, codes, Result, Ok, Err, refl, sym, ap, subst, ◌∙◌, arith}
+use Rattle.std.specs.Prelude.{nat_lt}
 use Rattle.trop_theory.specs.Semiring.{Semiring}
 use Rattle.trop_theory.specs.Numbers.{Numbering}
 use Rattle.trop_theory.specs.Inequalities.{Inequality}
 use Rattle.trop_text.specs.Pieces.{Piece}
 use Rattle.trop_text.specs.declared.fault.FaultKind.{FaultKind}
 use Rattle.trop_text.specs.declared.fault.FaultKind.TheVariants.{Syntax, TooManyLines}
-use Rattle.trop_grammar.specs.Reading.{token_at}
-use Rattle.trop_grammar.specs.Grammar.{One, Empty, Then}
-use Rattle.trop_grammar.specs.Lists.{Passes}
 use Rattle.trop_grammar.specs.Reads.{Reads, Anything}
 use Rattle.trop_grammar.proofs.Laws.{Reads-then, Reads-gives}
 use Rattle.trop_grammar.proofs.ListLaws.{Reads-judged}
-use Rattle.trop_grammar.proofs.Ends.{EndsWith, EndsWith-one, EndsWith-then, EndsWith-gives}
-use Rattle.trop_reading.specs.Words.{line_end}
+use Rattle.trop_grammar.proofs.Ends.{EndsWith, EndsWith-then, EndsWith-gives}
 use Rattle.trop_reading.proofs.Samples.{sample, line_end_reads}
 use Rattle.trop_spelling.specs.declared.ring_kind.RingKind.{RingKind}
 use Rattle.trop_spelling.specs.Inequalities.{IsInequality}
@@ -24,12 +20,11 @@ use Rattle.trop_spelling.proofs.InequalityLaws.{inequality_reads}
 use Rattle.trop_spelling.specs.Parts.{IsRowLine, row_line_at}
 use Rattle.prog_theory.specs.Graph.{Point, Statement, Inner}
 use Rattle.report_texts.specs.Limits.{most_lines, greatest_entry, greatest_inv}
-use Rattle.report_texts.specs.Lines.{Line, At, Unreachable, Row, Inv, Asserted, Last, Block, Body, has_finite}
+use Rattle.report_texts.specs.Lines.{Line, At, Unreachable, Row, Inv, Asserted, Last, has_finite}
 use Rattle.report_texts.specs.Progress.{Place, Outside, Opened, Shut, InRows, InInvs, Judging, Progress, moved, shut, with_row, with_inv, may_shut, may_row, may_inv, few, next}
 use Rattle.report_texts.specs.LineTexts.{Word, AtWord, ShutWord, RowWord, InvWord, AssertWord, EndWord, line_word, where_may, admitted, both, placed_word, Label, OfStatement, Alone, label_word, verdict_word, normalised, IsLabelRest, IsLineRest, IsLine, IsPlacedLine, label_rest_at, line_rest_at, line_at}
-use Rattle.report_texts.specs.Heads.{digits}
 use Rattle.report_texts.proofs.Runs.{if_some, if_more, moved_is}
-use Rattle.report_texts.proofs.HeadLaws.{digits_reads, IsLineEnd, line_end_is, line_end_last, ended_last}
+use Rattle.report_texts.proofs.HeadLaws.{digits_reads, IsLineEnd, ended_last}
 
 label_rest_reads : (w : Label) → Reads Anything (label_rest_at w) (IsLabelRest w)
 unfolding label_rest_at

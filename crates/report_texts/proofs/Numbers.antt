@@ -1,11 +1,11 @@
 -- The numbers of the points and of the asserts of a program are those of its statements.
 -- Index: points_fit, asserts_fit.
-use Rattle.std.proofs.Common.{◌≡◌, ◌≤◌, ◌<◌, ◌+◌, ◌^◌, ℕ, zero, suc, List, [], ◌∷◌, ◌++◌, map, replicate, refl, arith}
+use Rattle.std.proofs.Common.{◌≤◌, ◌<◌, ◌+◌, ◌^◌, ℕ, zero, suc, List, [], ◌∷◌, map, replicate, arith}
 use Rattle.prog_theory.specs.Statements.{Stmt, Set, Havoc, Assume, Assert, If, While, Skip, Block, Empty, Then, Program}
 use Rattle.prog_theory.specs.Numbering.{count, counts}
 use Rattle.prog_theory.specs.Tests.{test, inner}
 use Rattle.prog_theory.specs.Places.{Place, places, places_of, own_inner, width, widths, entry}
-use Rattle.prog_theory.specs.Graph.{Point, Statement, Inner, Exit, own_points, points_of, program_places, points}
+use Rattle.prog_theory.specs.Graph.{Inner, own_points, points_of, program_places, points}
 use Rattle.cone_reports.specs.Asserts.{Assertion, own_asserts, asserts_of, asserts}
 use Rattle.report_texts.specs.Lines.{Each}
 use Rattle.report_texts.proofs.Runs.{Each-append}

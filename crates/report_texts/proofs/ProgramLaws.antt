@@ -1,11 +1,11 @@
 -- The program of a report is read right, and each stop is at the first fault.
 -- Index: plain_counted, ended_reads, program_part_exact, program_part_stops.
-use Rattle.std.proofs.Common.{◌≡◌, ◌≤◌, ℕ, Bool, true, false, List, [], ◌∷◌, ◌++◌, map, length, codes, Ok, Err, refl, sym, ap, subst, ◌∙◌, ◌||◌, append_assoc, arith}
+use Rattle.std.proofs.Common.{◌≡◌, ◌≤◌, ℕ, true, List, [], ◌∷◌, ◌++◌, length, codes, Ok, Err, refl, sym, ap, subst, ◌∙◌, arith}
 use Rattle.std.proofs.lemmas.List.{map-append}
 use Rattle.trop_text.specs.Pieces.{Piece}
 use Rattle.trop_text.specs.declared.fault.FaultKind.{FaultKind}
 use Rattle.trop_text.specs.declared.fault.FaultKind.TheVariants.{Syntax}
-use Rattle.trop_grammar.specs.Reading.{Reading, Miss, read_then, gives}
+use Rattle.trop_grammar.specs.Reading.{Reading, Miss}
 use Rattle.shape_grammar.specs.Past.{past}
 use Rattle.shape_grammar.specs.Shape.{Nothing}
 use Rattle.shape_grammar.specs.Reads.{Reads, IsTaken}
@@ -17,10 +17,10 @@ use Rattle.shape_grammar.proofs.Whole.{first_fault}
 use Rattle.prog_theory.specs.Limits.{program_limits}
 use Rattle.prog_theory.specs.Named.{Named}
 use Rattle.prog_texts.specs.AssertRule.{AssertRule}
-use Rattle.prog_texts.specs.Words.{Before, Counted, text, skipped, says, behind, nothing_before, counted}
+use Rattle.prog_texts.specs.Words.{Before, Counted, skipped, says, behind, nothing_before, counted}
 use Rattle.prog_texts.specs.Shapes.{language}
 use Rattle.prog_texts.specs.Programs.{IsProgramCause}
-use Rattle.prog_texts.proofs.Signs.{Anything, said_reads, IsLed, only_where, text_is}
+use Rattle.prog_texts.proofs.Signs.{Anything, said_reads, only_where, text_is}
 use Rattle.prog_texts.proofs.ProgramLaws.{IsOver, over_led, program_reads, some_program}
 use Rattle.report_texts.specs.ProgramParts.{part_pieces, plain, IsEnded, IsProgramPart, ended_program, ended_at, uncounted, program_part_at, IsProgramFault}
 use Rattle.report_texts.proofs.Exact.{Exact, ok_same}

@@ -1,41 +1,37 @@
 -- What is read keeps what a report keeps, with rows of at most twice the size of the numbers in the text.
 -- Index: report_kept.
-use Rattle.std.proofs.Common.{◌≡◌, ◌≢◌, ◌≤◌, ◌<◌, ◌+◌, ℕ, zero, suc, Bool, true, false, cond, List, [], ◌∷◌, ◌++◌, map, length, codes, Option, Some, None, Result, Ok, Err, refl, sym, ap, subst, ◌∙◌, arith}
-use Rattle.std.specs.Prelude.{All, slice_index_or, nat_le, nat_eq, ℤ}
+use Rattle.std.proofs.Common.{◌≡◌, ◌≤◌, ◌+◌, ℕ, zero, suc, Bool, true, false, cond, List, [], ◌∷◌, ◌++◌, map, length, codes, Option, Some, None, Ok, Err, refl, sym, ap, subst, ◌∙◌, arith}
+use Rattle.std.specs.Prelude.{All, slice_index_or, nat_le, nat_eq}
 use Rattle.std.proofs.lemmas.Bool.{leb-true}
 use Rattle.std.proofs.lemmas.List.{length-map}
 use Rattle.trop_theory.specs.Semiring.{Semiring, SemiringLaws}
-use Rattle.trop_theory.specs.Numbers.{Numbering}
-use Rattle.trop_theory.specs.Vectors.{entry, scaled, row_size, rows_size, AreWide}
+use Rattle.trop_theory.specs.Vectors.{scaled, row_size, rows_size}
 use Rattle.trop_theory.specs.Normal.{IsNormal}
 use Rattle.trop_theory.specs.Inequalities.{Inequality, IsIn, inequality_size, system_size}
 use Rattle.trop_theory.proofs.SameCones.{row_size-scaled}
 use Rattle.trop_theory.proofs.Sizes.{size-entry}
 use Rattle.trop_text.specs.Digits.{number_of}
-use Rattle.trop_text.specs.Pieces.{Piece, pieces_of}
-use Rattle.trop_text.specs.declared.fault.FaultKind.{FaultKind}
+use Rattle.trop_text.specs.Pieces.{Piece}
 use Rattle.trop_text.specs.declared.fault.FaultKind.TheVariants.{Syntax, NumberRange}
 use Rattle.trop_reading.specs.Words.{text_of, says, is_digits, number}
 use Rattle.trop_spelling.proofs.Lengths.{length-row, IsIn-inequality}
 use Rattle.trop_spelling.proofs.ReadSizes.{row_size-read, inequality_size-read}
 use Rattle.prog_theory.specs.Limits.{program_limits}
-use Rattle.prog_theory.specs.Named.{Named, nameless}
+use Rattle.prog_theory.specs.Named.{Named}
 use Rattle.prog_theory.specs.Within.{IsWithin}
-use Rattle.prog_theory.specs.Graph.{points}
 use Rattle.prog_texts.specs.AssertRule.{AssertRule}
 use Rattle.prog_texts.proofs.Kept.{spelled_within}
 use Rattle.cone_reports.specs.Reports.{Part}
 use Rattle.report_texts.specs.Limits.{most_delay, most_narrow, most_passes, greatest_entry, greatest_normal, greatest_inv}
 use Rattle.report_texts.specs.Modes.{Mode, Element, kind_of, ring_of, is_reversed, numbering, rule_of}
-use Rattle.report_texts.specs.Lines.{Line, At, Unreachable, Row, Inv, Asserted, Last, Block, Body, Judged, Each, part_lines, blocks_lines, lines_of, has_finite, IsPart, IsBodyOf}
-use Rattle.report_texts.specs.Reports.{ReportText, IsPartWithin, IsReportWithin, assert_numbers}
+use Rattle.report_texts.specs.Lines.{Line, At, Unreachable, Row, Inv, Asserted, Last, Block, Judged, Each, part_lines, blocks_lines, lines_of, has_finite, IsPart}
+use Rattle.report_texts.specs.Reports.{ReportText, IsPartWithin, IsReportWithin}
 use Rattle.report_texts.specs.LineTexts.{Word, AtWord, ShutWord, RowWord, InvWord, AssertWord, EndWord, line_word, leading, divided, normalised, IsLineRest, IsLine}
 use Rattle.report_texts.specs.Heads.{Head, IsNarrowLine, IsHead}
-use Rattle.report_texts.specs.ProgramParts.{part_pieces, IsProgramPart}
+use Rattle.report_texts.specs.ProgramParts.{IsProgramPart}
 use Rattle.report_texts.specs.Bodies.{AreTexts}
-use Rattle.report_texts.specs.Texts.{report, SpellsReport, report_answer}
-use Rattle.report_texts.proofs.ProgramLaws.{plain_counted}
-use Rattle.report_texts.proofs.NormalRows.{IsLed, led_at, led_finite, finite_led, normalised_is}
+use Rattle.report_texts.specs.Texts.{report_answer}
+use Rattle.report_texts.proofs.NormalRows.{led_at, led_finite, finite_led, normalised_is}
 use Rattle.report_texts.proofs.WrittenLines.{laws_of, number_laws_of, kind_laws_of}
 use Rattle.report_texts.proofs.TextLaws.{report_found}
 

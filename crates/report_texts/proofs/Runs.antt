@@ -1,13 +1,9 @@
 -- The lines of a body, taken one after another: what is so far, and that each body's lines are taken.
-use Rattle.std.proofs.Common.{◌≡◌, ◌≤◌, ◌<◌, ◌+◌, ◌&&◌, ℕ, zero, suc, Bool, true, false, cond, Option, Some, None, List, [], ◌∷◌, ◌++◌, map, length, length-append, refl, sym, ap, subst, ◌∙◌, append_assoc, append-nil, arith, eq-eqb, eqb-true, lt-ltb, ltb-true}
-use Rattle.std.specs.Prelude.{nat_eq, nat_lt, slice_get}
-use Rattle.std.proofs.lemmas.List.{length-map, map-append}
-use Rattle.trop_theory.specs.Numbers.{Numbering}
-use Rattle.trop_theory.specs.Inequalities.{Inequality}
+use Rattle.std.proofs.Common.{◌≡◌, ◌+◌, ◌&&◌, ℕ, suc, Bool, true, false, cond, Option, Some, None, List, [], ◌∷◌, ◌++◌, map, length, refl, sym, ap, ◌∙◌, append_assoc, append-nil, arith, eq-eqb, eqb-true}
+use Rattle.std.specs.Prelude.{slice_get}
 use Rattle.prog_theory.specs.Graph.{Point, Statement, Inner, Exit}
-use Rattle.report_texts.specs.Limits.{most_lines}
-use Rattle.report_texts.specs.Lines.{Line, At, Unreachable, Row, Inv, Asserted, Last, Block, Body, Judged, Each, part_lines, block_lines, blocks_lines, judged_line, lines_of, has_finite, IsPart, IsBodyOf}
-use Rattle.report_texts.specs.Progress.{Place, Outside, Opened, Shut, InRows, InInvs, Judging, Progress, start, block, ending, same_point, is_label, is_number, moved, opened, judged, first_judged, shut, with_row, with_inv, behind, after_at, after_assert, next, verdicts, complete, final, go_on, progress}
+use Rattle.report_texts.specs.Lines.{Line, At, Unreachable, Row, Inv, Block, Each, block_lines, blocks_lines, judged_line}
+use Rattle.report_texts.specs.Progress.{Place, Outside, Opened, Shut, InRows, InInvs, Judging, Progress, block, ending, same_point, is_label, is_number, moved}
 
 -- ---- lists
 

@@ -1,14 +1,14 @@
 -- The lines of each body are taken one after another, and what is taken so far begins some body.
 -- Index: progress-append, body_taken, begins_good.
-use Rattle.std.proofs.Common.{◌≡◌, ◌≤◌, ◌<◌, ◌+◌, ◌&&◌, ℕ, zero, suc, Bool, true, false, cond, Option, Some, None, List, [], ◌∷◌, ◌++◌, map, length, length-append, refl, sym, ap, subst, ◌∙◌, append_assoc, append-nil, arith, eq-eqb, eqb-true, lt-ltb, ltb-true}
+use Rattle.std.proofs.Common.{◌≡◌, ◌≤◌, ◌+◌, ◌&&◌, ℕ, suc, Bool, true, false, cond, Option, Some, None, List, [], ◌∷◌, ◌++◌, map, length, length-append, refl, sym, ap, subst, ◌∙◌, append_assoc, append-nil, arith, eq-eqb, lt-ltb}
 use Rattle.std.specs.Prelude.{nat_eq, nat_lt, slice_get}
 use Rattle.std.proofs.lemmas.List.{length-map, map-append}
 use Rattle.trop_theory.specs.Numbers.{Numbering}
 use Rattle.trop_theory.specs.Inequalities.{Inequality}
 use Rattle.prog_theory.specs.Graph.{Point}
 use Rattle.report_texts.specs.Limits.{most_lines}
-use Rattle.report_texts.specs.Lines.{Line, At, Unreachable, Row, Inv, Asserted, Last, Block, Body, Judged, Each, block_lines, part_lines, blocks_lines, judged_line, lines_of, has_finite, IsPart, IsBodyOf, BeginsBody}
-use Rattle.report_texts.specs.Progress.{Place, Outside, Opened, Shut, InRows, InInvs, Judging, Progress, start, block, ending, is_label, is_number, moved, opened, judged, first_judged, shut, with_row, with_inv, behind, after_at, after_assert, next, verdicts, complete, final, go_on, progress}
+use Rattle.report_texts.specs.Lines.{Line, At, Unreachable, Row, Inv, Last, Block, Body, Judged, Each, part_lines, blocks_lines, judged_line, lines_of, has_finite, IsPart, IsBodyOf, BeginsBody}
+use Rattle.report_texts.specs.Progress.{Place, Outside, Opened, Shut, InRows, InInvs, Judging, Progress, start, block, ending, is_label, is_number, moved, opened, judged, first_judged, behind, after_at, after_assert, next, verdicts, complete, final, go_on, progress}
 use Rattle.report_texts.proofs.Runs.{and_both, get_behind, same_is, Each-append, open_lines, so_far, is_judging, blocks-append, blocks_all}
 use Rattle.report_texts.proofs.Steps.{points_in, numbers_in, here, PlaceOk, PartOk, Good}
 

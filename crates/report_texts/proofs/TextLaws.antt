@@ -6,8 +6,8 @@ use Rattle.trop_text.specs.Places.{fault_before}
 use Rattle.trop_text.specs.declared.fault.Fault.{Fault}
 use Rattle.trop_text.specs.declared.fault.FaultKind.{FaultKind}
 use Rattle.trop_text.specs.declared.fault.FaultKind.TheVariants.{Syntax, ReportFault}
-use Rattle.trop_grammar.specs.Reading.{Reading, Miss, go_on, read_then, gives, token_at}
-use Rattle.trop_grammar.specs.Grammar.{One, Empty, Then}
+use Rattle.trop_grammar.specs.Reading.{Reading, Miss, read_then, gives, token_at}
+use Rattle.trop_grammar.specs.Grammar.{One}
 use Rattle.trop_grammar.specs.Lists.{Passes}
 use Rattle.trop_grammar.specs.Reads.{Reads, Anything}
 use Rattle.trop_grammar.proofs.Laws.{go_on-err}
@@ -18,12 +18,11 @@ use Rattle.trop_reading.specs.Words.{line_end, input_end, is_input_end}
 use Rattle.trop_reading.proofs.Samples.{line_end_reads, IsInputEnd}
 use Rattle.trop_reading.proofs.Outcomes.{input_end_alone}
 use Rattle.prog_theory.specs.Graph.{points}
-use Rattle.prog_theory.specs.Named.{Named, nameless}
-use Rattle.report_texts.specs.Modes.{Mode, kind_of, ring_of, numbering, rule_of}
+use Rattle.prog_theory.specs.Named.{nameless}
+use Rattle.report_texts.specs.Modes.{kind_of, ring_of, numbering, rule_of}
 use Rattle.report_texts.specs.Reports.{ReportText, assert_numbers}
-use Rattle.report_texts.specs.Heads.{digits, is_version, IsReportLine, IsVersion, IsHead, word_line_at, from_last, against, known_version, version_at, head_at}
-use Rattle.report_texts.specs.ProgramParts.{program_part_at}
-use Rattle.report_texts.specs.Texts.{report, SpellsReport, body_for_at, report_at, answer, report_answer}
+use Rattle.report_texts.specs.Heads.{digits, is_version, IsReportLine, IsHead, word_line_at, from_last, against, known_version, version_at}
+use Rattle.report_texts.specs.Texts.{report, SpellsReport, report_at, answer, report_answer}
 use Rattle.report_texts.specs.Faults.{FaultsOf, FirstFault, InTurn, First, Second, IsVersionFault, NoReportLine, OtherVersion, IsReportFault}
 use Rattle.report_texts.proofs.Exact.{Exact, Exact-reads, Exact-then, Exact-gives, from_last-is}
 use Rattle.report_texts.proofs.ProgramLaws.{program_part_exact, program_part_stops}

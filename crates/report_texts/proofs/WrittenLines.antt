@@ -1,16 +1,15 @@
 -- Printed lines behind the program are read back.
 -- Index: IsOpen, FitsLine, line_written, lines_written.
-use Rattle.std.proofs.Common.{◌≡◌, ◌≢◌, ◌≤◌, ◌<◌, ◌+◌, ◌^◌, ℕ, zero, suc, Bool, true, false, List, [], ◌∷◌, ◌++◌, map, length, codes, Option, Some, None, Result, Ok, refl, sym, ap, subst, ◌∙◌, append_assoc, append-nil, arith}
-use Rattle.std.specs.Prelude.{ℤ, pos, decimal}
+use Rattle.std.proofs.Common.{◌≡◌, ◌≢◌, ◌≤◌, ◌<◌, ◌+◌, ◌^◌, ℕ, zero, suc, Bool, true, false, List, [], ◌∷◌, ◌++◌, map, length, codes, Option, Some, None, Ok, refl, sym, ap, subst, ◌∙◌, append_assoc, append-nil, arith}
+use Rattle.std.specs.Prelude.{ℤ, decimal}
 use Rattle.std.proofs.lemmas.List.{length-map}
 use Rattle.trop_theory.specs.Semiring.{Semiring, SemiringLaws}
-use Rattle.trop_theory.specs.Numbers.{Numbering, NumberLaws, NumericLaws}
+use Rattle.trop_theory.specs.Numbers.{NumberLaws}
 use Rattle.trop_theory.specs.Vectors.{entry, row_size}
 use Rattle.trop_theory.specs.Normal.{IsNormal}
 use Rattle.trop_theory.specs.Inequalities.{Inequality, IsIn, inequality_size}
 use Rattle.trop_theory.proofs.MaxPlusLaws.{max_laws, max_number_laws, max_numeric_laws}
 use Rattle.trop_theory.proofs.MinPlusLaws.{min_laws, min_number_laws, min_numeric_laws}
-use Rattle.trop_text.specs.Digits.{number_of}
 use Rattle.trop_text.specs.Name.{is_word}
 use Rattle.trop_text.specs.Names.{AreNames}
 use Rattle.trop_text.specs.Pieces.{Piece, Token, LineEnd}
@@ -20,20 +19,17 @@ use Rattle.std.proofs.lemmas.Fmt.{decimal_is_IsNumeral}
 use Rattle.trop_text.proofs.Written.{tok, IsOne, IsWritten, written_join, written_as}
 use Rattle.trop_text.proofs.WrittenTokens.{Always, StopsWord, word_written, blank_written}
 use Rattle.trop_text.proofs.WrittenLines.{AreLines, lines_none, lines_one, lines_join}
-use Rattle.trop_grammar.specs.Grammar.{One, Empty, Then}
-use Rattle.trop_grammar.specs.Lists.{Passes}
 use Rattle.trop_spelling.specs.Spelling.{KindLaws}
 use Rattle.trop_spelling.specs.Elements.{IsRow}
-use Rattle.trop_spelling.specs.Parts.{IsRowLine}
 use Rattle.trop_spelling.specs.Printed.{numbers, printed_row, printed_inequality}
 use Rattle.trop_spelling.proofs.WrittenElements.{named, AreWithin, row_written}
-use Rattle.trop_spelling.proofs.WrittenInequalities.{IsOpenInequality, open_is_inequality, inequality_written}
-use Rattle.trop_spelling.proofs.KindLaws.{named_row, is_one, one_number, within}
+use Rattle.trop_spelling.proofs.WrittenInequalities.{open_is_inequality, inequality_written}
+use Rattle.trop_spelling.proofs.KindLaws.{named_row, within}
 use Rattle.prog_theory.specs.Graph.{Point, Statement, Inner, Exit}
 use Rattle.report_texts.specs.Limits.{greatest_entry, greatest_inv}
 use Rattle.report_texts.specs.Modes.{Mode, InMax, InMin, Element, kind_of, ring_of, is_reversed, numbering}
 use Rattle.report_texts.specs.Lines.{Line, At, Unreachable, Row, Inv, Asserted, Last, Each}
-use Rattle.report_texts.specs.LineTexts.{line_word, AtWord, ShutWord, RowWord, InvWord, AssertWord, EndWord, OfStatement, Alone, label_word, verdict_word, normalised, IsLabelRest, IsLine}
+use Rattle.report_texts.specs.LineTexts.{line_word, AtWord, ShutWord, RowWord, InvWord, AssertWord, EndWord, OfStatement, Alone, label_word, verdict_word, normalised, IsLine}
 use Rattle.report_texts.specs.Heads.{digits}
 use Rattle.report_texts.specs.Bodies.{AreTexts}
 use Rattle.report_texts.specs.Printed.{label_text, verdict_text, row_text, line_text, lines_text}

@@ -1,17 +1,14 @@
 -- A printed report is read back.
 -- Index: IsWrittenProgram, report_read_back.
-use Rattle.std.proofs.Common.{◌≡◌, ◌≢◌, ◌≤◌, ◌<◌, ◌+◌, ◌^◌, ℕ, zero, suc, Bool, true, false, List, [], ◌∷◌, ◌++◌, map, length, codes, Result, Ok, refl, sym, ap, subst, ◌∙◌, append_assoc, append-nil, arith}
+use Rattle.std.proofs.Common.{◌≡◌, ◌≢◌, ◌≤◌, ◌<◌, ◌+◌, ◌^◌, ℕ, suc, Bool, true, List, [], ◌∷◌, ◌++◌, map, length, codes, Result, Ok, refl, sym, ap, subst, ◌∙◌, append_assoc, arith}
 use Rattle.std.specs.Prelude.{All, decimal}
-use Rattle.std.proofs.lemmas.Bool.{le-leb}
-use Rattle.std.proofs.lemmas.List.{length-map}
 use Rattle.trop_theory.specs.Vectors.{AreWide, rows_size}
 use Rattle.trop_theory.specs.Normal.{IsNormal}
 use Rattle.trop_theory.specs.Inequalities.{Inequality, IsIn, system_size}
-use Rattle.trop_text.specs.Digits.{number_of}
 use Rattle.trop_text.specs.Name.{is_word}
 use Rattle.trop_text.specs.Names.{AreNames}
 use Rattle.trop_text.specs.Pieces.{Piece, Token, LineEnd, InputEnd, pieces_of}
-use Rattle.trop_text.specs.declared.token.TokenKind.TheVariants.{Word, Digits}
+use Rattle.trop_text.specs.declared.token.TokenKind.TheVariants.{Word}
 use Rattle.trop_text.specs.declared.fault.FaultKind.{FaultKind}
 use Rattle.trop_text.proofs.Written.{tok}
 use Rattle.trop_text.proofs.WrittenLines.{AreLines, lines_one, lines_join, lines_as, lines_whole}
@@ -26,17 +23,15 @@ use Rattle.prog_texts.specs.AssertRule.{AssertRule}
 use Rattle.prog_texts.specs.Printed.{printed}
 use Rattle.cone_reports.specs.Reports.{Part}
 use Rattle.report_texts.specs.Limits.{most_delay, most_narrow, most_passes, greatest_entry, greatest_inv}
-use Rattle.report_texts.specs.Modes.{Mode, InMax, InMin, Element, kind_of, ring_of, numbering, rule_of, mode_word}
-use Rattle.report_texts.specs.Lines.{Line, At, Unreachable, Row, Inv, Asserted, Last, Block, Body, Judged, Each, IsPart, IsBodyOf, part_lines, block_lines, blocks_lines, judged_line, lines_of}
+use Rattle.report_texts.specs.Modes.{Mode, InMax, InMin, Element, ring_of, numbering, rule_of, mode_word}
+use Rattle.report_texts.specs.Lines.{Line, Row, Inv, Last, Block, Body, Judged, Each, IsPart, IsBodyOf, part_lines, blocks_lines, judged_line, lines_of}
 use Rattle.report_texts.specs.Reports.{ReportText, IsPartWithin, IsReportWithin, assert_numbers}
-use Rattle.report_texts.specs.LineTexts.{IsLine}
 use Rattle.report_texts.specs.Heads.{digits, Head, which_mode, IsWordLine, IsVersion, IsHead}
 use Rattle.report_texts.specs.ProgramParts.{IsProgramPart}
-use Rattle.report_texts.specs.Bodies.{AreTexts, IsBody}
 use Rattle.report_texts.specs.Texts.{report, IsBodyFor, SpellsReport, report_answer}
-use Rattle.report_texts.specs.Printed.{line_text, lines_text, blocks_of, judged_of, body_of, word_line, printed_head, printed_report}
+use Rattle.report_texts.specs.Printed.{line_text, lines_text, blocks_of, judged_of, body_of, word_line, printed_report}
 use Rattle.report_texts.proofs.Runs.{Each-append}
-use Rattle.report_texts.proofs.Bits.{Bit, Says, Counts, IsBit, bit_text, bit_kind, AreBits, bits_text, bits_written, bits_then, line_ended, bits_some}
+use Rattle.report_texts.proofs.Bits.{Bit, Says, Counts, IsBit, bit_text, bit_kind, bits_written, bits_then, line_ended, bits_some}
 use Rattle.report_texts.proofs.WrittenLines.{FitsPoint, FitsLine, digits_pass, Texts, lines_written}
 use Rattle.report_texts.proofs.Numbers.{FitsNumber, points_fit, asserts_fit}
 use Rattle.report_texts.proofs.TextLaws.{report_only}

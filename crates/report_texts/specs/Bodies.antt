@@ -1,5 +1,5 @@
 -- What stands behind the program: its lines one behind the other.
-use Rattle.std.specs.Prelude.{◌≡◌, ℕ, zero, suc, List, [], ◌∷◌, ◌++◌, length, Option, Some, None, Result, Ok, Err}
+use Rattle.std.specs.Prelude.{◌≡◌, ℕ, zero, suc, List, [], ◌∷◌, ◌++◌, length, Option, Some, None, Ok, Err}
 use Rattle.trop_theory.specs.Semiring.{Semiring}
 use Rattle.trop_theory.specs.Numbers.{Numbering}
 use Rattle.trop_grammar.specs.Reading.{Reading}
@@ -9,7 +9,7 @@ use Rattle.trop_text.specs.declared.fault.FaultKind.TheVariants.{Syntax}
 use Rattle.trop_spelling.specs.declared.ring_kind.RingKind.{RingKind}
 use Rattle.prog_theory.specs.Graph.{Point}
 use Rattle.report_texts.specs.Lines.{Line, At, Unreachable, Row, Inv, Asserted, Last, Body, lines_of, IsBodyOf}
-use Rattle.report_texts.specs.Progress.{Place, Progress, start, next, final}
+use Rattle.report_texts.specs.Progress.{Progress, start, next, final}
 use Rattle.report_texts.specs.LineTexts.{IsLine, line_at}
 use Rattle.report_texts.specs.Heads.{against}
 

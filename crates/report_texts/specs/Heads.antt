@@ -1,5 +1,5 @@
 -- The head of a report: its version, the words of the analysis and the number of its passes.
-use Rattle.std.specs.Prelude.{◌≡◌, ℕ, suc, ◌-◌, Bool, true, ◌||◌, nat_eq, false, List, [], ◌∷◌, length, codes, drop, Result, Ok, Err, if◌then◌else◌}
+use Rattle.std.specs.Prelude.{◌≡◌, ℕ, suc, ◌-◌, Bool, true, ◌||◌, nat_eq, false, List, length, codes, drop, Result, Ok, Err, if◌then◌else◌}
 use Rattle.trop_grammar.specs.Reading.{Reading, ◌>>=◌, gives, token_at}
 use Rattle.trop_grammar.specs.Grammar.{One, Empty, Then}
 use Rattle.trop_grammar.specs.Lists.{Passes}

@@ -3,7 +3,7 @@ use Rattle.std.specs.Prelude.{ℕ, ℤ, Bool, true, false, List, [], ◌∷◌, 
 use Rattle.trop_spelling.specs.declared.ring_kind.RingKind.{RingKind}
 use Rattle.trop_spelling.specs.Printed.{numbers, printed_row, printed_inequality}
 use Rattle.prog_theory.specs.Graph.{Point, Statement, Inner, Exit, points}
-use Rattle.prog_theory.specs.Named.{Named, nameless}
+use Rattle.prog_theory.specs.Named.{nameless}
 use Rattle.prog_texts.specs.Printed.{printed}
 use Rattle.cone_reports.specs.Reports.{Part}
 use Rattle.report_texts.specs.Modes.{Mode, Element, kind_of, numbering, mode_word}

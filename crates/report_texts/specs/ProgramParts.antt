@@ -1,5 +1,5 @@
 -- The program of a report, up to the word `end`: its tokens stand in free layout.
-use Rattle.std.specs.Prelude.{◌≡◌, List, map, codes, Result, Ok, Err}
+use Rattle.std.specs.Prelude.{◌≡◌, List, map, codes, Ok, Err}
 use Rattle.trop_grammar.specs.Reading.{Reading, ◌>>=◌, gives}
 use Rattle.trop_grammar.specs.Grammar.{Empty, Then}
 use Rattle.trop_text.specs.Pieces.{Piece}

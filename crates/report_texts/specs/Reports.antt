@@ -1,5 +1,5 @@
 -- The value of a report, and what it says of its program.
-use Rattle.std.specs.Prelude.{◌≡◌, ◌≤◌, ◌+◌, ◌^◌, ℕ, Bool, List, length, map, All}
+use Rattle.std.specs.Prelude.{◌≡◌, ◌≤◌, ◌+◌, ℕ, Bool, List, length, map, All}
 use Rattle.trop_theory.specs.Vectors.{rows_size, AreWide}
 use Rattle.trop_theory.specs.Normal.{IsNormal}
 use Rattle.trop_theory.specs.Inequalities.{IsIn, system_size}
