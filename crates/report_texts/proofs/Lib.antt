@@ -13,3 +13,5 @@ pub mod WrittenLines
 pub mod Numbers
 pub mod WrittenReports
 pub mod ReadReports
+pub mod Sample
+pub mod FirstFaults
