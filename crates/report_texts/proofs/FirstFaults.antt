@@ -1,5 +1,5 @@
 -- The first faults of some texts of reports.
-use Rattle.std.proofs.Common.{◌≡◌, ℕ, List, [], ◌∷◌, ◌++◌, codes, Ok, Err, refl}
+use Rattle.std.proofs.Common.{◌≡◌, ℕ, List, ◌++◌, codes, Err, refl}
 use Rattle.trop_text.specs.declared.fault.Fault.{Fault}
 use Rattle.trop_text.specs.declared.fault.Fault.TheVariants.{Syntax, NumberRange, UnknownName, ReportFault}
 use Rattle.trop_grammar.specs.Reading.{read_then, gives, token_at, option_at, repeat_at, until_at}

@@ -24,7 +24,6 @@ use Rattle.report_texts.specs.Bodies.{body_from, body_at}
 use Rattle.trop_theory.specs.Inequalities.{Inequality}
 use Rattle.prog_theory.specs.Conditions.{Lt, Atom}
 use Rattle.prog_theory.specs.Statements.{Set, While, Empty, Then}
-use Rattle.cone_reports.specs.Reports.{Part}
 use Rattle.report_texts.specs.Modes.{Element, InMax, InMin}
 use Rattle.report_texts.specs.Reports.{ReportText}
 use Rattle.report_texts.specs.Texts.{report_at, report_answer}
