@@ -1,0 +1,17 @@
+pub mod Exact
+pub mod Runs
+pub mod Steps
+pub mod Taken
+pub mod ProgramLaws
+pub mod HeadLaws
+pub mod LineLaws
+pub mod BodyLaws
+pub mod TextLaws
+pub mod NormalRows
+pub mod Bits
+pub mod WrittenLines
+pub mod Numbers
+pub mod WrittenReports
+pub mod ReadReports
+pub mod Sample
+pub mod FirstFaults

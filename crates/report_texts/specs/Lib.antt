@@ -1,0 +1,12 @@
+pub mod Limits
+pub mod Modes
+pub mod Lines
+pub mod Reports
+pub mod Progress
+pub mod LineTexts
+pub mod Heads
+pub mod ProgramParts
+pub mod Bodies
+pub mod Texts
+pub mod Faults
+pub mod Printed
