@@ -2,8 +2,6 @@ mod counts;
 mod cuts;
 mod faults;
 mod modes;
-mod parentheses;
-mod printing;
 mod reading;
 mod traces;
 mod words;
