@@ -1,0 +1,2 @@
+mod parentheses;
+mod printing;
