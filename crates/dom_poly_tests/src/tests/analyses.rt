@@ -1,5 +1,5 @@
 // Analyses by tropical polyhedra; what is wanted was worked by hand.
-use super::reading::{Parsed, parsed};
+use super::reading::{Source, parsed};
 use super::rows::rows_text;
 use dom_core::{Domain, Part, Place};
 use dom_iter::{Family, IterErr, analyse};
@@ -189,7 +189,7 @@ proved",
 ];
 
 // Whether the value of the point of the last assert of the program's own block proves its claim.
-fn verdict<S: Numeric>(parsed: &Parsed, family: &Family<PolyDomain<S>>) -> Option<bool> {
+fn verdict<S: Numeric>(parsed: &Source, family: &Family<PolyDomain<S>>) -> Option<bool> {
     let mut number = 0;
     let mut found: Option<bool> = None;
     for statement in parsed.program.body().as_slice() {
@@ -202,7 +202,7 @@ fn verdict<S: Numeric>(parsed: &Parsed, family: &Family<PolyDomain<S>>) -> Optio
 }
 
 fn value_proves<S: Numeric>(
-    parsed: &Parsed,
+    parsed: &Source,
     family: &Family<PolyDomain<S>>,
     number: u32,
     claim: &Claim,
@@ -230,7 +230,7 @@ fn place_text(alloc: Global, cause: &str, place: &Place) -> Result<String, Fail>
 
 fn family_text<S: Numeric>(
     alloc: Global,
-    parsed: &Parsed,
+    parsed: &Source,
     family: &Family<PolyDomain<S>>,
 ) -> Result<String, Fail> {
     let passes = family.passes;

@@ -7,20 +7,20 @@ use std::test::Fail;
 
 // A program with its control graph.
 #[derive(Drop)]
-pub(super) struct Parsed {
+pub(super) struct Source {
     pub(super) program: Program,
     pub(super) graph: Graph,
 }
 
 // The program of the text; none where it is none.
-pub(super) fn parsed(alloc: Global, text: &[u8]) -> Result<Option<Parsed>, Fail> {
+pub(super) fn parsed(alloc: Global, text: &[u8]) -> Result<Option<Source>, Fail> {
     if text.len() > 100_000 {
         return Ok(None);
     }
     match read_program(alloc, text, AssertRule::Any) {
         Ok(program) => {
             let graph = build(alloc, &program)?;
-            Ok(Some(Parsed { program, graph }))
+            Ok(Some(Source { program, graph }))
         }
         Err(_) => Ok(None),
     }
