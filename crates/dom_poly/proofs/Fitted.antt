@@ -1,5 +1,5 @@
 -- Values of sets, and why there is none.
-use Rattle.std.proofs.Common.{◌≡◌, ◌<◌, ◌≤◌, ◌-◌, ℕ, suc, List, length, Some, None, refl, sym, ap, ◌∙◌, subst, arith}
+use Rattle.std.proofs.Common.{◌≡◌, ◌<◌, ◌≤◌, ◌-◌, ℕ, suc, Bool, List, length, Some, None, refl, sym, ap, ◌∙◌, subst, arith}
 use Rattle.std.specs.Prelude.{◌↔◌, Result, Ok, Err, IfOk, IfErr}
 use Rattle.trop_theory.specs.Semiring.{Semiring, SemiringLaws}
 use Rattle.trop_theory.specs.Vectors.{rows_size}
@@ -71,7 +71,7 @@ module _ {V : Type 0} {R : Semiring V} (laws : SemiringLaws R) where
   value_for vars vectors (Err (cones.Polar i k)) result h f = absurd h
   value_for vars vectors (Err cones.NoMemory) result h f = subst (IsValueFor R vars vectors) (sym f) tt
 
-module _ {V : Type 0} (R : Semiring V) (N : Numbering V) (reversed : _) where
+module _ {V : Type 0} (R : Semiring V) (N : Numbering V) (reversed : Bool) where
   image_answer : (op : Op) (v : Value V) (result : Result (Value V) DomErr) → IsValue R v → FitsOp v.vars op →
       IsValueFor R v.vars (InImage R N reversed (coordinates v) op (cone_of R v)) result →
       IsAnswer (polyhedra R N reversed) (Apply op v) result
@@ -94,7 +94,7 @@ module _ {V : Type 0} (R : Semiring V) (N : Numbering V) (reversed : _) where
   join_answer v other (Err (Range at)) value other_value same h = (ap at_of h.0, h.1)
   join_answer v other (Err NoMemory) value other_value same h = tt
 
-module _ {V : Type 0} {R : Semiring V} (laws : SemiringLaws R) (N : Numbering V) (reversed : _) where
+module _ {V : Type 0} {R : Semiring V} (laws : SemiringLaws R) (N : Numbering V) (reversed : Bool) where
   -- the image of the cone of a value, as an answer
   pub image_answered : (op : Op) (v : Value V) (cone : Cone V) (made : Result (Cone V) PolyErr)
       (result : Result (Value V) DomErr) → cone.n ≡ suc v.vars → cone.rows ≡ v.rows → IsValue R v → FitsOp v.vars op →

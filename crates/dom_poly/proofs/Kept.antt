@@ -35,7 +35,7 @@ module _ {X : Type 0} (P : X → Type 0) (xs : List X) (k : ℕ) (x : X) (within
 -- ---- the size of the external list of a value
 pub external_small : (s size n : ℕ) → size ≤ 2 ^ 40 → n ≤ 64 → s ≤ 4 * size * (n - 1) → s ≤ 2 ^ 48
 external_small s size n l m h =
-    let a : 4 * size * (n - 1) ≤ 4 * size * 63 = mul-le-mul_left (n - 1) 63 (4 * size) (omega arith) in omega arith
+    let a : 4 * size * (n - 1) ≤ 4 * size * 63 = mul-le-mul_left (4 * size) (omega arith) in omega arith
 
 module _ {V : Type 0} {R : Semiring V} (laws : SemiringLaws R) where
   chosen_small : (P : Inequality V → Type 0) (base list : List (Inequality V)) (m : ℕ) → AreChosen P base list →

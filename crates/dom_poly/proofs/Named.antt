@@ -1,6 +1,6 @@
 -- The same cone by the names of its parts.
-use Rattle.std.proofs.Common.{◌≡◌, ◌<◌, ◌≤◌, ℕ, suc, List, refl, sym, ap, ◌∙◌, subst, arith}
-use Rattle.std.specs.Prelude.{◌↔◌, All}
+use Rattle.std.proofs.Common.{◌≡◌, ◌<◌, ◌≤◌, ℕ, suc, Bool, List, refl, sym, ap, ◌∙◌, subst, subst₂, arith}
+use Rattle.std.specs.Prelude.{◌↔◌, All, IsTrue}
 use Rattle.trop_theory.specs.Semiring.{Semiring}
 use Rattle.trop_theory.specs.Combinations.{IsCombination}
 use Rattle.trop_poly.specs.Cones.{Cone, InCone}
@@ -10,6 +10,10 @@ use Rattle.prog_theory.specs.Fits.{FitsOp}
 use Rattle.prog_theory.specs.States.{Term}
 use Rattle.prog_theory.specs.Statements.{Claim}
 use Rattle.prog_theory.specs.Within.{IsNumberWithin}
+use Rattle.trop_theory.specs.Numbers.{Numbering}
+use Rattle.cone_reports.specs.Readings.{IsProvenOn}
+use Rattle.cone_domain.specs.Operations.{IsIncluded}
+use Rattle.cone_domain.specs.Polyhedra.{IsProvenBy}
 use Rattle.dom_core.specs.Claims.{FitsClaim}
 use Rattle.cone_claims.specs.Terms.{IsOn, IsClaimOn}
 use Rattle.cone_domain.specs.Values.{Value, coordinates, cone_of}
@@ -31,3 +35,19 @@ module _ {V : Type 0} (v : Value V) (cone : Cone V) (width : cone.n ≡ suc v.va
     λ k d l. (let b = f.left k d l in omega arith, f.left_numbers k d l),
     λ k d l. (let b = f.right k d l in omega arith, f.right_numbers k d l),
   )
+
+module _ {V : Type 0} (R : Semiring V) (b : Bool) where
+  pub included_as : (v other : Value V) (cone second : Cone V) → cone.n ≡ suc v.vars → cone.rows ≡ v.rows →
+      second.n ≡ suc other.vars → second.rows ≡ other.rows →
+      IsTrue b ↔ ((x : List V) → InCone R cone x → InCone R second x) → IsTrue b ↔ IsIncluded R v other
+  included_as v other cone second width same second_width second_same h =
+      subst (λ (k : Cone V). IsTrue b ↔ ((x : List V) → InCone R k x → cone_of R other x))
+      (sym (cone_as v cone width same))
+      (subst (λ (k : Cone V). IsTrue b ↔ ((x : List V) → InCone R cone x → InCone R k x))
+      (sym (cone_as other second second_width second_same)) h)
+
+  pub proven_as : (N : Numbering V) (reversed : Bool) (claim : Claim) (v : Value V) (n : ℕ) (rows : List (List V)) →
+      n ≡ suc v.vars → rows ≡ v.rows → IsTrue b ↔ IsProvenOn R N reversed n (IsCombination R n rows) claim →
+      IsTrue b ↔ IsProvenBy R N reversed claim v
+  proven_as N reversed claim v n rows width same h =
+      subst₂ (λ m l. IsTrue b ↔ IsProvenOn R N reversed m (IsCombination R m l) claim) width same h

@@ -1,5 +1,5 @@
 -- The widening as an answer.
-use Rattle.std.proofs.Common.{◌≡◌, ◌<◌, ◌≤◌, ◌-◌, ℕ, suc, List, length, Some, None, refl, sym, ap, ◌∙◌, subst, arith}
+use Rattle.std.proofs.Common.{◌≡◌, ◌<◌, ◌≤◌, ◌-◌, ℕ, suc, Bool, List, length, Some, None, refl, sym, ap, ◌∙◌, subst, arith}
 use Rattle.std.specs.Prelude.{◌↔◌, Result, Ok, Err}
 use Rattle.trop_theory.specs.Semiring.{Semiring, SemiringLaws}
 use Rattle.trop_theory.specs.Vectors.{rows_size}
@@ -67,7 +67,7 @@ module _ {V : Type 0} {R : Semiring V} (laws : SemiringLaws R) where
   solved_refused n list (cones.Polar i k) h = absurd h
   solved_refused n list cones.NoMemory h = tt
 
-module _ {V : Type 0} {R : Semiring V} (laws : SemiringLaws R) (N : Numbering V) (reversed : _) (v next : Value V) where
+module _ {V : Type 0} {R : Semiring V} (laws : SemiringLaws R) (N : Numbering V) (reversed : Bool) (v next : Value V) where
   widening_free : (list : InequalityList V) → IsKept R v next list →
       ((cause : Cause) (k : ℕ) → IsListRefused R (coordinates v) list.inequalities cause k → ⊥) → (cause : Cause)
       (at : At) → IsPartRefused R v next cause at → ⊥

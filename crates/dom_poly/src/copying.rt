@@ -10,8 +10,9 @@ pub(crate) fn copied_list<S: Scalar>(alloc: Global, list: &System<S>) -> Result<
     ensures width { IfOk result (λ out. out.n ≡ list.now.n) }
     ensures same { IfOk result (λ out. out.inequalities ≡ list.now.inequalities) }
 {
+    let inequalities = list.as_slice();
     let mut out = System::new(alloc, list.n());
-    for ineq in list.as_slice() {
+    for ineq in inequalities {
         out.push(ineq.copy(alloc)?)?;
     }
     Ok(out)

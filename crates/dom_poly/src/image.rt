@@ -39,7 +39,9 @@ fn leaves_point<S: Numeric>(alloc: Global, cone: &Poly<S>, op: &Op) -> Result<bo
             let ineq = guard_inequality(alloc, rows.n(), left, right)?;
             Ok(guard_has_point(rows, &ineq))
         }
-        Op::Skip | Op::Set { .. } | Op::Havoc { .. } => Ok(has_point(rows)),
+        Op::Skip => Ok(has_point(rows)),
+        Op::Set { .. } => Ok(has_point(rows)),
+        Op::Havoc { .. } => Ok(has_point(rows)),
     }
 }
 

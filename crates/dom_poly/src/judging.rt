@@ -52,8 +52,9 @@ pub(crate) fn valid_part<S: Scalar>(
         AreChosen (IsValidOn S.ring (IsCombination S.ring rows.now.n rows.now.rows)) list.now.inequalities
         part.inequalities) }
 {
+    let inequalities = list.as_slice();
     let mut part = System::new(alloc, list.n());
-    for ineq in list.as_slice() {
+    for ineq in inequalities {
         if is_valid(ineq, rows) {
             part.push(ineq.copy(alloc)?)?;
         }
