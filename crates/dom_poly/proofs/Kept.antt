@@ -1,5 +1,5 @@
 -- The kept list.
-use Rattle.std.proofs.Common.{◌≡◌, ◌≢◌, ◌<◌, ◌≤◌, ◌+◌, ◌*◌, ◌-◌, ◌^◌, ℕ, suc, List, [], ◌∷◌, ◌++◌, length, take, get_or, Option, Some, None, inl, inr, sym, ap, ◌∙◌, refl, subst, arith}
+use Rattle.std.proofs.Common.{◌≡◌, ◌≢◌, ◌<◌, ◌≤◌, ◌+◌, ◌*◌, ◌-◌, ◌^◌, ℕ, zero, suc, List, [], ◌∷◌, ◌++◌, length, take, get_or, Option, Some, None, inl, inr, sym, ap, ◌∙◌, refl, subst, arith}
 use Rattle.std.specs.Prelude.{◌↔◌, All}
 use Rattle.std.proofs.Math.Nat.{mul-le-mul_left}
 use Rattle.std.proofs.lemmas.List.{take_more}
@@ -16,7 +16,37 @@ use Rattle.cone_domain.specs.Values.{Value, coordinates, cone_of}
 use Rattle.cone_domain.specs.Operations.{IsBase}
 use Rattle.cone_domain.specs.Refused.{IsUnstopped}
 use Rattle.dom_poly.specs.Kept.{most_kept}
-use Rattle.dom_poly.specs.Lists.{IsKept}
+use Rattle.trop_duality.specs.External.{IsExternal}
+use Rattle.trop_duality.specs.PolarStops.{IsPolarStop}
+use Rattle.std.specs.Prelude.{Err}
+use Rattle.trop_poly.specs.Cones.{Cone, InCone}
+use Rattle.trop_poly.specs.Refusals.{IsExternalRefusal}
+use Rattle.trop_poly.specs.declared.error.PolyErr.{PolyErr}
+use Rattle.trop_poly.specs.declared.error.PolyErr.TheVariants as cones
+use Rattle.dom_poly.specs.Views.{value_of}
+use Rattle.dom_poly.specs.Lists.{IsKept, IsKeptFor}
+use Rattle.dom_poly.proofs.Named.{cone_as}
+
+-- an inequality is its two sides
+pub same_inequality : {V : Type 0} (p q : Inequality V) → p.left ≡ q.left → p.right ≡ q.right → p ≡ q
+same_inequality p q left right = ap (λ l. record { left = l; right = p.right }) left
+    ∙ ap (λ r. record { left = q.left; right = r }) right
+
+pub taken_more : {X : Type 0} (xs : List X) (k : ℕ) (x : X) → k < length xs → x ≡ get_or xs k x →
+    take (k + 1) xs ≡ take k xs ++ x ∷ []
+taken_more xs k x l is = take_more xs k x l ∙ ap (λ y. take k xs ++ y ∷ []) (sym is)
+
+pub taken_whole : {X : Type 0} (xs : List X) (k : ℕ) → length xs ≤ k → take k xs ≡ xs
+taken_whole [] zero l = refl
+taken_whole [] (suc k) l = refl
+taken_whole (x ∷ xs) zero l = absurd (omega arith)
+taken_whole (x ∷ xs) (suc k) l = ap (λ ys. x ∷ ys) (taken_whole xs k (omega arith))
+
+pub taken_length : {X : Type 0} (xs : List X) (k : ℕ) → length (take k xs) ≤ k
+taken_length [] zero = omega arith
+taken_length [] (suc k) = omega arith
+taken_length (x ∷ xs) zero = omega arith
+taken_length (x ∷ xs) (suc k) = omega (arith, taken_length xs k)
 
 -- ---- choosing the elements of a list with a property, one after another
 module _ {X : Type 0} (P : X → Type 0) (xs : List X) (k : ℕ) (x : X) (within : k < length xs) (is : x ≡ get_or xs k x)
@@ -61,3 +91,25 @@ module _ {V : Type 0} {R : Semiring V} (laws : SemiringLaws R) where
         kept = record { base = base.inequalities; is_base = is_base; chosen = c };
         unstopped = unstopped;
       }
+
+-- ---- where the widening begins
+module _ {V : Type 0} (R : Semiring V) (v : Value V) where
+  pub kept_unstopped : (base : List (Inequality V)) → v.kept ≡ Some base → IsUnstopped R v
+  kept_unstopped base e none = absurd (let k : Some base ≡ None = sym e ∙ none in cc)
+
+  module _ (cone : Cone V) (width : cone.n ≡ suc v.vars) (same : cone.rows ≡ v.rows) where
+    pub external_base : (base : List (Inequality V)) → v.kept ≡ None → IsExternal R cone.n (InCone R cone) base →
+        IsBase R v base
+    external_base base none e = inr (none, subst (λ (k : Cone V). IsExternal R k.n (InCone R k) base)
+        (sym (cone_as v cone width same)) e)
+
+    pub external_unstopped : ((i k : ℕ) → IsPolarStop R cone.n cone.rows i k → ⊥) → IsUnstopped R v
+    external_unstopped h none i k stop = h i k
+        (subst (λ (a : Cone V). IsPolarStop R a.n a.rows i k) (cone_as v cone width same) stop)
+
+    pub external_refused : (next : Value V) (err : PolyErr) → v.kept ≡ None → IsExternalRefusal R cone.n cone.rows err →
+        IsKeptFor R v next (Err err)
+    external_refused next (cones.Rows k) none h = h
+    external_refused next (cones.Polar i k) none h = (none,
+        subst (λ (a : Cone V). IsPolarStop R a.n a.rows i k) (sym (cone_as v cone width same)) h)
+    external_refused next cones.NoMemory none h = tt

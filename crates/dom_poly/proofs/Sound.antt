@@ -28,6 +28,11 @@ use Rattle.dom_poly.specs.Kept.{most_kept, IsSound, IsListIn}
 pub one_more : {V : Type 0} (cone : Cone V) → 1 ≤ cone.n → suc (cone.n - 1) ≡ cone.n
 one_more cone l = omega arith
 
+-- the number of coordinates of a value's cone
+pub value_width : {V : Type 0} (cone : Cone V) (kept : Option (InequalityList V)) (v : Value V) → value_of cone kept ≡ v →
+    1 ≤ cone.n → cone.n ≡ suc v.vars
+value_width cone kept v e l = sym (one_more cone l) ∙ ap (λ (w : Value _). suc w.vars) e
+
 module _ {V : Type 0} (R : Semiring V) (cone : Cone V) (least : 1 ≤ cone.n) where
   wide_value : AreWide cone.n cone.rows → AreWide (suc (cone.n - 1)) cone.rows
   wide_value w = subst (λ m. AreWide m cone.rows) (sym (one_more cone least)) w

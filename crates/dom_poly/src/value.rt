@@ -140,7 +140,7 @@ impl<S: Numeric> PolyDomain<S> {
         ensures { result ≡ width_of self.now.kept }
     {
         match &self.kept {
-            Some(list) => u64::from(list.len()),
+            Some(list) => list.len() as u64,
             None => GREATEST_WIDTH,
         }
     }

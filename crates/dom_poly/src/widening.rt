@@ -53,6 +53,8 @@ impl<S: Numeric> PolyDomain<S> {
         requires leaves { ¬ IsIncluded S.ring next.now self.now }
         ensures { IsAnswer (polyhedra S.ring S.numbering S.REVERSED) (Widen self.now next.now) result }
     {
+        let _value = self.poly();
+        let _next = next.poly();
         match kept_list(alloc, self, next) {
             Ok(list) => solutions(alloc, list),
             Err(err) => Err(refused_part(err)),

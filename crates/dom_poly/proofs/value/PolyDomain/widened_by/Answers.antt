@@ -13,7 +13,10 @@ pub solutions-requires-clause-numbers : goal.solutions-requires-clause-numbers
 solutions-requires-clause-numbers g c = c.in-Ok.ensures.small
 
 pub returns-in-Ok : goal.returns-in-Ok
-returns-in-Ok g c = ?
+returns-in-Ok g c =
+    widened_answer g.met.S.Scalar.ring_laws g.S.Scalar.numbering g.S.Scalar.REVERSED c.args.self.now c.args.next.now
+    c.poly-value.ensures.value c.poly-next.ensures.value c.requires.vars c.requires.leaves c.in-Ok.list
+    c.solutions.result c.in-Ok.ensures c.solutions.ensures
 
 pub returns-in-Err : goal.returns-in-Err
 returns-in-Err g c =
