@@ -100,8 +100,11 @@ module _ {V : Type 0} (R : Semiring V) (v : Value V) where
   module _ (cone : Cone V) (width : cone.n ≡ suc v.vars) (same : cone.rows ≡ v.rows) where
     pub external_base : (base : List (Inequality V)) → v.kept ≡ None → IsExternal R cone.n (InCone R cone) base →
         IsBase R v base
-    external_base base none e = inr (none, subst (λ (k : Cone V). IsExternal R k.n (InCone R k) base)
-        (sym (cone_as v cone width same)) e)
+    external_base base none e = inr (
+      none,
+      subst (λ (k : Cone V). IsExternal R k.n (InCone R k) base)
+          (sym (cone_as v cone width same)) e,
+    )
 
     pub external_unstopped : ((i k : ℕ) → IsPolarStop R cone.n cone.rows i k → ⊥) → IsUnstopped R v
     external_unstopped h none i k stop = h i k
@@ -110,6 +113,8 @@ module _ {V : Type 0} (R : Semiring V) (v : Value V) where
     pub external_refused : (next : Value V) (err : PolyErr) → v.kept ≡ None → IsExternalRefusal R cone.n cone.rows err →
         IsKeptFor R v next (Err err)
     external_refused next (cones.Rows k) none h = h
-    external_refused next (cones.Polar i k) none h = (none,
-        subst (λ (a : Cone V). IsPolarStop R a.n a.rows i k) (sym (cone_as v cone width same)) h)
+    external_refused next (cones.Polar i k) none h = (
+      none,
+      subst (λ (a : Cone V). IsPolarStop R a.n a.rows i k) (sym (cone_as v cone width same)) h,
+    )
     external_refused next cones.NoMemory none h = tt

@@ -50,7 +50,9 @@ fn fitted<S: Numeric>(cone: Poly<S>) -> Result<PolyDomain<S>, DomErr>
 }
 
 // The same of a cone that may be refused.
-pub(crate) fn fitted_from<S: Numeric>(made: Result<Poly<S>, PolyErr>) -> Result<PolyDomain<S>, DomErr>
+pub(crate) fn fitted_from<S: Numeric>(
+    made: Result<Poly<S>, PolyErr>,
+) -> Result<PolyDomain<S>, DomErr>
     ensures { IsFittedFrom S.ring made result }
 {
     match made {
@@ -60,7 +62,10 @@ pub(crate) fn fitted_from<S: Numeric>(made: Result<Poly<S>, PolyErr>) -> Result<
 }
 
 // The cone of the solutions of a list as a value that keeps the list, where its numbers are small.
-pub(crate) fn fitted_with<S: Numeric>(cone: Poly<S>, list: System<S>) -> Result<PolyDomain<S>, DomErr>
+pub(crate) fn fitted_with<S: Numeric>(
+    cone: Poly<S>,
+    list: System<S>,
+) -> Result<PolyDomain<S>, DomErr>
     requires width { list.n ≡ cone.n }
     requires few { length list.inequalities ≤ row_limit }
     requires numbers { system_size S.ring list.inequalities ≤ most_kept }

@@ -6,7 +6,10 @@ use trop_row::System;
 use trop_scalar::Scalar;
 
 // A copy of the list.
-pub(crate) fn copied_list<S: Scalar>(alloc: Global, list: &System<S>) -> Result<System<S>, AllocError>
+pub(crate) fn copied_list<S: Scalar>(
+    alloc: Global,
+    list: &System<S>,
+) -> Result<System<S>, AllocError>
     ensures width { IfOk result (λ out. out.n ≡ list.now.n) }
     ensures same { IfOk result (λ out. out.inequalities ≡ list.now.inequalities) }
 {

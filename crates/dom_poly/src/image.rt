@@ -56,9 +56,7 @@ fn moved<S: Numeric>(alloc: Global, cone: &Poly<S>, op: &Op) -> Result<Poly<S>, 
     let rows = cone.rows();
     match op {
         Op::Skip => Ok(cone.copy(alloc)?),
-        Op::Set { var, value } => {
-            cone.assign(alloc, *var, value.coord, S::of_number(value.add))
-        }
+        Op::Set { var, value } => { cone.assign(alloc, *var, value.coord, S::of_number(value.add)) }
         Op::Havoc { var } => cone.forget(alloc, *var),
         Op::Guard { left, right } => {
             let ineq = guard_inequality(alloc, rows.n(), left, right)?;
@@ -93,7 +91,11 @@ impl<S: Numeric> PolyDomain<S> {
     }
 
     // The join with the other.
-    pub(crate) fn joined_with(&self, alloc: Global, other: &PolyDomain<S>) -> Result<PolyDomain<S>, DomErr>
+    pub(crate) fn joined_with(
+        &self,
+        alloc: Global,
+        other: &PolyDomain<S>,
+    ) -> Result<PolyDomain<S>, DomErr>
         requires { self.now.vars ≡ other.now.vars }
         ensures { IsAnswer (polyhedra S.ring S.numbering S.REVERSED) (Join self.now other.now) result }
     {

@@ -12,5 +12,4 @@ pub fn images_grow<S: Numeric>()
     ensures { (op : edges.Op) (v w a b : values.Value S) → v.vars ≡ w.vars → IsIncluded S.ring v w →
         IsImage S.ring S.numbering S.REVERSED op v a → IsImage S.ring S.numbering S.REVERSED op w b →
         IsIncluded S.ring a b }
-{
-}
+{}

@@ -20,7 +20,11 @@ use trop_scalar::Numeric;
 
 // The list that is kept: of the kept list, or at the first widening of the external list, what is valid on the next
 // value.
-fn kept_list<S: Numeric>(alloc: Global, value: &PolyDomain<S>, next: &PolyDomain<S>) -> Result<System<S>, PolyErr>
+fn kept_list<S: Numeric>(
+    alloc: Global,
+    value: &PolyDomain<S>,
+    next: &PolyDomain<S>,
+) -> Result<System<S>, PolyErr>
     requires { value.now.vars ≡ next.now.vars }
     ensures { IsKeptFor S.ring value.now next.now result }
 {
@@ -48,7 +52,11 @@ fn solutions<S: Numeric>(alloc: Global, list: System<S>) -> Result<PolyDomain<S>
 
 impl<S: Numeric> PolyDomain<S> {
     // What it becomes where the next value leaves it.
-    pub(crate) fn widened_by(&self, alloc: Global, next: &PolyDomain<S>) -> Result<PolyDomain<S>, DomErr>
+    pub(crate) fn widened_by(
+        &self,
+        alloc: Global,
+        next: &PolyDomain<S>,
+    ) -> Result<PolyDomain<S>, DomErr>
         requires vars { self.now.vars ≡ next.now.vars }
         requires leaves { ¬ IsIncluded S.ring next.now self.now }
         ensures { IsAnswer (polyhedra S.ring S.numbering S.REVERSED) (Widen self.now next.now) result }

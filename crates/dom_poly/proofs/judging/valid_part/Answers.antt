@@ -46,37 +46,41 @@ push-requires-clause-wide g c =
     }
 
 pub push-requires-clause-room : goal.push-requires-clause-room
-push-requires-clause-room g c = omega (arith, ap length c.as_slice-inequalities.ensures.inequalities,
-    c.loop-ineq.invariant.room, c.as_slice-inequalities.ensures.room)
+push-requires-clause-room g c = omega (
+  arith,
+  ap length c.as_slice-inequalities.ensures.inequalities,
+  c.loop-ineq.invariant.room,
+  c.as_slice-inequalities.ensures.room,
+)
 
 pub loop-ineq-preserved : goal.loop-ineq-preserved
 loop-ineq-preserved g c =
     let R = g.S.Scalar.ring in
     elim c.if-is_valid.branch [
       | then-is_valid+in_ok-copy+in_ok-push w ↦ record {
-          width = ap (λ s. s.n) w.part-is ∙ w.in_ok-push.ensures.width ∙ c.loop-ineq.invariant.width;
-          room = omega (
-            arith,
-            ap length (ap (λ s. s.inequalities) w.part-is ∙ w.in_ok-push.ensures.ok),
-            length_push c.loop-ineq.part.inequalities w.in_ok-copy.field-0,
-            c.loop-ineq.invariant.room,
-          );
-          chosen = chosen_more (IsValidOn R (IsCombination R c.args.rows.now.n c.args.rows.now.rows))
-              c.as_slice-inequalities.result.now c.loop-ineq.ineq-index c.ineq-item.result (omega arith) c.ineq-item.is
-              c.loop-ineq.part.inequalities c.loop-ineq.invariant.chosen c.if-is_valid.part.inequalities
-              (c.is_valid.ensures.0 w.if-is_valid.true)
-              (ap (λ s. s.inequalities) w.part-is ∙ w.in_ok-push.ensures.ok
-              ∙ ap (λ p. c.loop-ineq.part.inequalities ++ p ∷ []) (same_inequality w.in_ok-copy.field-0
-              c.ineq-item.result w.in_ok-copy.ensures.left w.in_ok-copy.ensures.right));
-        }
+        width = ap (λ s. s.n) w.part-is ∙ w.in_ok-push.ensures.width ∙ c.loop-ineq.invariant.width;
+        room = omega (
+          arith,
+          ap length (ap (λ s. s.inequalities) w.part-is ∙ w.in_ok-push.ensures.ok),
+          length_push c.loop-ineq.part.inequalities w.in_ok-copy.field-0,
+          c.loop-ineq.invariant.room,
+        );
+        chosen = chosen_more (IsValidOn R (IsCombination R c.args.rows.now.n c.args.rows.now.rows))
+            c.as_slice-inequalities.result.now c.loop-ineq.ineq-index c.ineq-item.result (omega arith) c.ineq-item.is
+            c.loop-ineq.part.inequalities c.loop-ineq.invariant.chosen c.if-is_valid.part.inequalities
+            (c.is_valid.ensures.0 w.if-is_valid.true)
+            (ap (λ s. s.inequalities) w.part-is ∙ w.in_ok-push.ensures.ok
+            ∙ ap (λ p. c.loop-ineq.part.inequalities ++ p ∷ []) (same_inequality w.in_ok-copy.field-0
+            c.ineq-item.result w.in_ok-copy.ensures.left w.in_ok-copy.ensures.right));
+      }
       | else-is_valid w ↦ record {
-          width = ap (λ s. s.n) w.part-is ∙ c.loop-ineq.invariant.width;
-          room = omega (arith, ap (λ s. length s.inequalities) w.part-is, c.loop-ineq.invariant.room);
-          chosen = chosen_past (IsValidOn R (IsCombination R c.args.rows.now.n c.args.rows.now.rows))
-              c.as_slice-inequalities.result.now c.loop-ineq.ineq-index c.ineq-item.result (omega arith) c.ineq-item.is
-              c.loop-ineq.part.inequalities c.loop-ineq.invariant.chosen c.if-is_valid.part.inequalities
-              (λ v. true≢false (sym (c.is_valid.ensures.1 v) ∙ w.if-is_valid.false)) (ap (λ s. s.inequalities) w.part-is);
-        }
+        width = ap (λ s. s.n) w.part-is ∙ c.loop-ineq.invariant.width;
+        room = omega (arith, ap (λ s. length s.inequalities) w.part-is, c.loop-ineq.invariant.room);
+        chosen = chosen_past (IsValidOn R (IsCombination R c.args.rows.now.n c.args.rows.now.rows))
+            c.as_slice-inequalities.result.now c.loop-ineq.ineq-index c.ineq-item.result (omega arith) c.ineq-item.is
+            c.loop-ineq.part.inequalities c.loop-ineq.invariant.chosen c.if-is_valid.part.inequalities
+            (λ v. true≢false (sym (c.is_valid.ensures.1 v) ∙ w.if-is_valid.false)) (ap (λ s. s.inequalities) w.part-is);
+      }
     ]
 
 pub returns-clause-chosen : goal.returns-clause-chosen
