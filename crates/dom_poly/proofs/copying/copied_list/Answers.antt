@@ -1,0 +1,46 @@
+use Rattle.std.proofs.Common.{◌≡◌, ◌≤◌, length, [], ◌∷◌, ◌++◌, take, sym, ap, ◌∙◌, subst, arith}
+use Rattle.std.specs.Prelude.{All}
+use Rattle.std.proofs.lemmas.List.{length_push}
+use Rattle.trop_theory.specs.Inequalities.{IsIn}
+use Rattle.dom_poly.proofs.Kept.{same_inequality, taken_more, taken_whole, taken_length}
+use Rattle.dom_poly.proofs.copying.copied_list.Goals as goal
+
+pub push-requires-clause-wide : goal.push-requires-clause-wide
+push-requires-clause-wide g c =
+    let S = c.as_slice-inequalities.result.now in
+    let n = c.args.list.now.n in
+    let each : All (IsIn n) S = subst (All (IsIn n)) (sym c.as_slice-inequalities.ensures.inequalities)
+    c.as_slice-inequalities.ensures.wide in
+    let item : IsIn n c.ineq-item.result = subst (IsIn n) (sym c.ineq-item.is)
+    (each c.loop-ineq.ineq-index c.ineq-item.result (omega arith)) in
+    record {
+      left = ap length c.in_ok-copy.ensures.left ∙ item.left ∙ sym c.loop-ineq.invariant.width;
+      right = ap length c.in_ok-copy.ensures.right ∙ item.right ∙ sym c.loop-ineq.invariant.width;
+    }
+
+pub push-requires-clause-room : goal.push-requires-clause-room
+push-requires-clause-room g c =
+    omega (
+      arith,
+      ap length c.as_slice-inequalities.ensures.inequalities,
+      ap length c.loop-ineq.invariant.same,
+      taken_length c.as_slice-inequalities.result.now c.loop-ineq.ineq-index,
+      c.as_slice-inequalities.ensures.room,
+    )
+
+pub loop-ineq-preserved : goal.loop-ineq-preserved
+loop-ineq-preserved g c =
+    let S = c.as_slice-inequalities.result.now in
+    let k = c.loop-ineq.ineq-index in
+    record {
+      width = c.in_ok-push.ensures.width ∙ c.loop-ineq.invariant.width;
+      same = c.in_ok-push.ensures.ok ∙ ap (λ s. s ++ c.in_ok-copy.field-0 ∷ []) c.loop-ineq.invariant.same
+          ∙ ap (λ p. take k S ++ p ∷ []) (same_inequality c.in_ok-copy.field-0 c.ineq-item.result
+          c.in_ok-copy.ensures.left c.in_ok-copy.ensures.right)
+          ∙ sym (taken_more S k c.ineq-item.result (omega arith) c.ineq-item.is);
+    }
+
+pub returns-clause-same : goal.returns-clause-same
+returns-clause-same g c =
+    c.loop-ineq.invariant.same ∙ taken_whole c.as_slice-inequalities.result.now c.loop-ineq.ineq-index (omega arith)
+    ∙ c.as_slice-inequalities.ensures.inequalities

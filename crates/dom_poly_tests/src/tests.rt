@@ -1,0 +1,5 @@
+// Tests by tables.
+mod analyses;
+mod reading;
+mod rows;
+mod widening;

@@ -1,0 +1,284 @@
+// Analyses by tropical polyhedra; what is wanted was worked by hand.
+use super::reading::{Source, parsed};
+use super::rows::rows_text;
+use dom_core::{Domain, Part, Place};
+use dom_iter::{Family, IterErr, analyse};
+use dom_poly::PolyDomain;
+use prog_graph::Point;
+use prog_tree::{Claim, Stmt};
+use std::alloc::Global;
+use std::test::Fail;
+use trop_scalar::{MaxInt, MinInt, Numeric};
+
+// A program that is read with the order of numbers, or the reverse one.
+struct Case {
+    name: &'static str,
+    reversed: bool,
+    program: &'static str,
+    delay: u32,
+    narrow: u32,
+
+    // The passes, the rows of each point, and whether the last assert is proved.
+    wanted: &'static str,
+}
+
+const COPYING: &str =
+    "vars ls n ld; assume ls >= 0; ld := 0; while ld < n && ld < ls { ld := ld + 1; } if ld >= n { havoc ld; assume ld >= n; } assert min(ls, n) = min(ld, n);";
+
+const COUNTING: &str = "vars i; i := 0; while i < 10 { i := i + 1; }";
+
+const CASES: [Case; 12] = [
+    Case {
+        name: "copying a string",
+        reversed: true,
+        program: COPYING,
+        delay: 2,
+        narrow: 0,
+        wanted: "4 passes
+0: . . . 0, . . 0 ., . 0 . ., 0 . . .
+1: . . . 0, . . 0 ., 0 . . ., 0 0 . .
+2: . . 0 ., 0 . . ., 0 . . 0, 0 0 . 0
+3: 0 . . ., 0 . . 0, 0 . 1 0, 0 0 . 0
+4: 0 . . ., 0 . . 0, 0 . 1 0, 0 1 . 0
+5: . . 0 ., 0 . . ., 0 . 0 0, 0 0 . 0
+6: . . 0 ., 0 . . ., 0 . 0 0, 0 0 0 0
+7: . . . 0, . . 0 ., 0 . . ., 0 0 0 .
+8: . . 0 ., . . 0 0, 0 . . ., 0 0 . 0, 0 0 0 .
+9: . . 0 ., . . 0 0, 0 . . ., 0 0 . 0, 0 0 0 .
+proved",
+    },
+    Case {
+        name: "an endless loop that is widened at once",
+        reversed: false,
+        program: "vars i; i := 0; while ? { i := i + 1; }",
+        delay: 0,
+        narrow: 0,
+        wanted: "3 passes
+0: . 0, 0 .
+1: . 0, 0 0
+2: . 0, 0 0
+3: . 0, 0 0
+no assert",
+    },
+    Case {
+        name: "an endless loop that is widened at its third change",
+        reversed: false,
+        program: "vars i; i := 0; while ? { i := i + 1; }",
+        delay: 2,
+        narrow: 0,
+        wanted: "4 passes
+0: . 0, 0 .
+1: . 0, 0 0
+2: . 0, 0 0
+3: . 0, 0 0
+no assert",
+    },
+    Case {
+        name: "a loop that is not entered",
+        reversed: false,
+        program: "vars i; i := 0; while i > 0 { i := i + 1; }",
+        delay: 2,
+        narrow: 0,
+        wanted: "2 passes
+0: . 0, 0 .
+1: 0 0
+2: 
+3: 0 0
+no assert",
+    },
+    Case {
+        name: "no statement",
+        reversed: true,
+        program: "vars;",
+        delay: 2,
+        narrow: 0,
+        wanted: "1 passes
+0: 0
+no assert",
+    },
+    Case {
+        name: "counting without narrowing",
+        reversed: false,
+        program: COUNTING,
+        delay: 0,
+        narrow: 0,
+        wanted: "3 passes
+0: . 0, 0 .
+1: . 0, 0 0
+2: 0 0, 0 9
+3: . 0, 0 10
+no assert",
+    },
+    Case {
+        name: "counting with one pass of the narrowing",
+        reversed: false,
+        program: COUNTING,
+        delay: 0,
+        narrow: 1,
+        wanted: "3 passes
+0: . 0, 0 .
+1: 0 0, 0 10
+2: 0 0, 0 9
+3: 0 10
+no assert",
+    },
+    Case {
+        name: "a claim that is proved",
+        reversed: false,
+        program: "vars x y; havoc x; assume x <= 3; y := x + 1; assert y <= 4;",
+        delay: 2,
+        narrow: 0,
+        wanted: "1 passes
+0: . . 0, . 0 ., 0 . .
+1: . . 0, . 0 ., 0 . .
+2: . . 0, 0 . ., 0 3 .
+3: 0 . ., 0 3 4
+4: 0 . ., 0 3 4
+proved",
+    },
+    Case {
+        name: "a claim that is not",
+        reversed: false,
+        program: "vars x y; havoc x; assume x <= 3; y := x + 1; assert y <= 3;",
+        delay: 2,
+        narrow: 0,
+        wanted: "1 passes
+0: . . 0, . 0 ., 0 . .
+1: . . 0, . 0 ., 0 . .
+2: . . 0, 0 . ., 0 3 .
+3: 0 . ., 0 3 4
+4: 0 . ., 0 3 4
+unknown",
+    },
+    Case {
+        name: "an equality of which one direction holds",
+        reversed: false,
+        program: "vars x; havoc x; assume x <= 3; assert x = 3;",
+        delay: 2,
+        narrow: 0,
+        wanted: "1 passes
+0: . 0, 0 .
+1: . 0, 0 .
+2: 0 ., 0 3
+3: 0 ., 0 3
+unknown",
+    },
+    Case {
+        name: "a guard that leaves rays alone",
+        reversed: false,
+        program: "vars x y; x := 0; y := 0; havoc y; assume y <= x - 1; assume x >= 1; assert 1 <= 0;",
+        delay: 2,
+        narrow: 0,
+        wanted: "1 passes
+0: . . 0, . 0 ., 0 . .
+1: . . 0, 0 0 .
+2: 0 0 0
+3: . . 0, 0 0 .
+4: 0 0 ., 0 0 -1
+5: 
+6: 
+proved",
+    },
+    Case {
+        name: "a number out of range",
+        reversed: false,
+        program: "vars x; x := 0; while ? { x := x + 2147483648; }",
+        delay: 1000,
+        narrow: 0,
+        wanted: "range: pass 514 point 1 edge 3",
+    },
+];
+
+// Whether the value of the point of the last assert of the program's own block proves its claim.
+fn verdict<S: Numeric>(parsed: &Source, family: &Family<PolyDomain<S>>) -> Option<bool> {
+    let mut number = 0;
+    let mut found: Option<bool> = None;
+    for statement in parsed.program.body().as_slice() {
+        if let Stmt::Assert(claim) = statement {
+            found = value_proves(parsed, family, number, claim);
+        }
+        number += statement.count();
+    }
+    found
+}
+
+fn value_proves<S: Numeric>(
+    parsed: &Source,
+    family: &Family<PolyDomain<S>>,
+    number: u32,
+    claim: &Claim,
+) -> Option<bool> {
+    let points = parsed.graph.points().as_slice();
+    for (point, value) in points.iter().zip(family.values.iter()) {
+        if *point == Point::Statement(number) {
+            return Some(value.proves(claim));
+        }
+    }
+    None
+}
+
+fn place_text(alloc: Global, cause: &str, place: &Place) -> Result<String, Fail> {
+    let (pass, point) = (place.pass, place.point);
+    let part = match place.part {
+        Part::Edge(k) => format!(in alloc; "edge {k}")?,
+        Part::Sum(k) => format!(in alloc; "sum {k}")?,
+        Part::Head => format!(in alloc; "head")?,
+        Part::Polar(i, k) => format!(in alloc; "polar {i} rows {k}")?,
+        Part::Kept(k) => format!(in alloc; "kept {k}")?,
+    };
+    Ok(format!(in alloc; "{cause}: pass {pass} point {point} {part}")?)
+}
+
+fn family_text<S: Numeric>(
+    alloc: Global,
+    parsed: &Source,
+    family: &Family<PolyDomain<S>>,
+) -> Result<String, Fail> {
+    let passes = family.passes;
+    let mut text = format!(in alloc; "{passes} passes")?;
+    let mut point = 0;
+    for value in &family.values {
+        let rows = rows_text(alloc, value.poly().rows())?;
+        text = format!(in alloc; "{text}\n{point}: {rows}")?;
+        point += 1;
+    }
+    let told = match verdict(parsed, family) {
+        Some(true) => "proved",
+        Some(false) => "unknown",
+        None => "no assert",
+    };
+    Ok(format!(in alloc; "{text}\n{told}")?)
+}
+
+// What comes of the analysis.
+fn outcome<S: Numeric>(alloc: Global, case: &Case) -> Result<String, Fail> {
+    let parsed = match parsed(alloc, case.program.as_bytes())? {
+        Some(parsed) => parsed,
+        None => return Ok(format!(in alloc; "no program")?),
+    };
+    match analyse::<PolyDomain<S>>(alloc, &parsed.graph, case.delay, case.narrow) {
+        Ok(family) => family_text(alloc, &parsed, &family),
+        Err(IterErr::Limit(place)) => place_text(alloc, "limit", &place),
+        Err(IterErr::Range(place)) => place_text(alloc, "range", &place),
+        Err(IterErr::NoMemory) => Ok(format!(in alloc; "no memory")?),
+    }
+}
+
+#[test]
+fn analyses(rt: HostRuntime) -> Result<(), Fail> {
+    let alloc = rt.alloc();
+    let mut failed = false;
+    for case in &CASES {
+        let got = if case.reversed {
+            outcome::<MinInt>(alloc, case)?
+        } else {
+            outcome::<MaxInt>(alloc, case)?
+        };
+        if got.as_str() != case.wanted {
+            println!(rt; "{}: wanted {}\ngot {}", case.name, case.wanted, got)?;
+            failed = true;
+        }
+    }
+    assert!(rt; !failed);
+    Ok(())
+}
