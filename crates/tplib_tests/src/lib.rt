@@ -1,8 +1,5 @@
-//! Worked examples of the whole library: texts and command words with the exact answers that [`tplib_cmd::run`] gives.
-//!
-//! The answers are written by hand from the formats and from the theory, never copied from a run. A table is a constant
-//! of
-//! its module: a case is an input and the bytes that are to be written for it.
+//! Runs over streams that fail, runs on altered files, readers that no command calls alone, and the laws of the library,
+//! each called once.
 #![tactic(auto)]
 
 #[cfg(test)]

@@ -1,8 +1,7 @@
 //! Valid files of each kind with changes that are drawn: a byte taken out, put in or exchanged, or two lines exchanged.
 //! Each run ends with an answer or with a cause that its command names, and the place of a fault lies in the file or one
 //! past its end.
-use super::draws::Draws;
-use super::ending::split;
+use run_examples::{Draws, split};
 use std::alloc::Global;
 use std::test::Fail;
 use tplib_cmd::{Status, run};

@@ -1,5 +1,5 @@
 //! Sources and sinks that fail.
-use super::ending::split;
+use run_examples::split;
 use std::alloc::Global;
 use std::test::Fail;
 use tplib_cmd::run;

@@ -1,5 +1,5 @@
 //! Runs over streams in memory, whose reads and writes fail by their numbers.
-use super::ending::{same_ending, split};
+use run_examples::{same_ending, split};
 use std::alloc::Global;
 use std::test::Fail;
 use tplib_cmd::{Status, run};

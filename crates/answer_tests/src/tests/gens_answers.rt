@@ -1,5 +1,5 @@
 //! Answers of `reduce`.
-use super::ending::{each_ends_so, ends_so};
+use run_examples::{each_ends_so, ends_so};
 use std::test::Fail;
 
 // Files of generators, and the file that `reduce` writes.

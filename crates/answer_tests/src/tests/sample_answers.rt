@@ -1,5 +1,5 @@
 //! Samples: their lines, and that no read is made.
-use super::ending::split;
+use run_examples::split;
 use std::alloc::Global;
 use std::test::Fail;
 use tplib_cmd::run;

@@ -1,5 +1,5 @@
 //! Answers of `ext`.
-use super::ending::each_ends_so;
+use run_examples::each_ends_so;
 use std::test::Fail;
 
 // Files of inequalities, and the file of generators that `ext` writes.

@@ -1,5 +1,5 @@
 //! Answers of `int`, of the operations on cones and of `sample`, worked out by hand.
-use super::ending::{answer_of, ends_so};
+use run_examples::{answer_of, ends_so};
 use std::test::Fail;
 
 /// A run that reads a file, and what it is to end with.

@@ -1,5 +1,5 @@
 //! Answers of `tangent`.
-use super::ending::each_ends_so;
+use run_examples::each_ends_so;
 use std::test::Fail;
 
 // Systems with a row that solves them, and what `tangent` writes.

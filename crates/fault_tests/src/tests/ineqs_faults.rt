@@ -1,5 +1,5 @@
 //! Files of inequalities, at fault.
-use super::ending::each_ends_so;
+use run_examples::each_ends_so;
 use std::test::Fail;
 
 // Files of inequalities that are at fault, and the line that `ext` writes to the sink of errors.

@@ -1,5 +1,5 @@
 //! Files with as many names and lines as there may be, and with one more.
-use super::ending::ends_so;
+use run_examples::ends_so;
 use std::alloc::Global;
 use std::test::Fail;
 

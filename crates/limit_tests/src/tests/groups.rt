@@ -1,5 +1,5 @@
 //! Systems of groups of variables, with as many extreme rows as a cone may have and with more.
-use super::ending::ends_so;
+use run_examples::ends_so;
 use std::alloc::Global;
 use std::test::Fail;
 

@@ -1,5 +1,5 @@
 //! Files of a vector with inequalities, at fault.
-use super::ending::each_ends_so;
+use run_examples::each_ends_so;
 use std::test::Fail;
 
 // Files of a system and a row that are at fault, and the line that `tangent` writes to the sink of errors.

@@ -1,6 +1,6 @@
 //! Answers of `int lean=on`, worked out by hand.
-use super::ending::{answer_of, ends_so};
 use itoa::Buffer;
+use run_examples::{answer_of, ends_so};
 use std::alloc::Global;
 use std::test::Fail;
 

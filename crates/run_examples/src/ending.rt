@@ -5,9 +5,9 @@ use std::test::Fail;
 use tplib_cmd::run;
 use trop_io::{MemSink, MemSource};
 
-// That a run of the words on the input ends with this code and writes exactly this; a failure with what was wanted and
-// what came, where it does not.
-pub(super) fn ends_so(
+/// That a run of the words on the input ends with this code and writes exactly this; a failure with what was wanted and
+/// what came, where it does not.
+pub fn ends_so(
     alloc: Global,
     words: &str,
     input: &[u8],
@@ -29,9 +29,9 @@ pub(super) fn ends_so(
     )
 }
 
-// The same of each of the inputs, with the text beside it: that of the answer with the codes 0 and 1, and with any other
-// the line of errors.
-pub(super) fn each_ends_so(
+/// The same of each of the inputs, with the text beside it: that of the answer with the codes 0 and 1, and with any other
+/// the line of errors.
+pub fn each_ends_so(
     alloc: Global,
     words: &str,
     code: u8,
@@ -47,9 +47,9 @@ pub(super) fn each_ends_so(
     Ok(true)
 }
 
-// Whether the code and what was written to both streams is what was wanted; a failure with both, and with the words and
-// the input, where it is not.
-pub(super) fn same_ending(
+/// Whether the code and what was written to both streams is what was wanted; a failure with both, and with the words and
+/// the input, where it is not.
+pub fn same_ending(
     alloc: Global,
     asked: (&str, &[u8]),
     wanted: (u8, &[u8], &[u8]),
@@ -75,7 +75,8 @@ fn shown(bytes: &[u8]) -> &str {
     from_utf8(bytes).unwrap_or("bytes that are no text")
 }
 
-pub(super) fn split(alloc: Global, words: &str) -> Result<Vec<String>, Fail> {
+/// The words of a command, without the blanks between them.
+pub fn split(alloc: Global, words: &str) -> Result<Vec<String>, Fail> {
     let mut list = Vec::new(alloc);
     for word in words.split(' ') {
         list.push(String::from_str(alloc, word)?)?;
@@ -83,8 +84,8 @@ pub(super) fn split(alloc: Global, words: &str) -> Result<Vec<String>, Fail> {
     Ok(list)
 }
 
-// What a run of the words on the input writes, where it ends with the code 0.
-pub(super) fn answer_of(alloc: Global, words: &str, input: &[u8]) -> Result<Option<Vec<u8>>, Fail> {
+/// What a run of the words on the input writes, where it ends with the code 0.
+pub fn answer_of(alloc: Global, words: &str, input: &[u8]) -> Result<Option<Vec<u8>>, Fail> {
     let words = split(alloc, words)?;
     let bytes = Vec::from_slice(alloc, input)?;
     let mut input = MemSource::new(bytes, 4096, Vec::new(alloc));

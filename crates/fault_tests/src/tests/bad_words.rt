@@ -1,5 +1,5 @@
 //! Words that are no command.
-use super::ending::ends_so;
+use run_examples::ends_so;
 use std::test::Fail;
 use tplib_cmd::run;
 use trop_io::{MemSink, MemSource};

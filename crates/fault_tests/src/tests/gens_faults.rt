@@ -1,5 +1,5 @@
 //! Files of generators, at fault.
-use super::ending::each_ends_so;
+use run_examples::each_ends_so;
 use std::test::Fail;
 
 // Headers that are at fault, and the line that `reduce` writes to the sink of errors.

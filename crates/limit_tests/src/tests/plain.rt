@@ -2,9 +2,8 @@
 // rows
 // of a row that it keeps and one that it drops, and at the end `reduce`. It gives what `ext` gives.
 
-use super::draws::Draws;
-use super::ending::answer_of;
 use itoa::Buffer;
+use run_examples::{Draws, answer_of};
 use std::alloc::Global;
 use std::test::Fail;
 

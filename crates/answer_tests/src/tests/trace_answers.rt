@@ -1,5 +1,5 @@
 //! Chosen runs: what `trace` writes, and which trace files it refuses.
-use super::ending::ends_so;
+use run_examples::ends_so;
 use std::alloc::Global;
 use std::test::Fail;
 
