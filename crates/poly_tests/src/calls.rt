@@ -18,19 +18,15 @@ fn converted_back<S: Scalar>(alloc: Global, cone: &Poly<S>) -> Result<Poly<S>, P
     Poly::from_system(alloc, &system)
 }
 
-// Two points, among all vectors.
-fn compares<S: Scalar>(alloc: Global, points: &Poly<S>) -> Result<bool, PolyErr>
-    requires width { points.now.n ≡ 4 }
-    requires size { rows_size S.ring points.now.rows ≤ 65534 }
-{
-    let whole = Poly::<S>::whole(alloc, 4)?;
-    let empty = Poly::<S>::empty(alloc, 4);
-    if whole.size() != 0 || empty.size() != 0 {
-        return Ok(false);
+// Whether the first cone lies in the second, and the second, of which the given row is outside, not in the first.
+fn is_below<S: Scalar>(lower: &Poly<S>, upper: &Poly<S>, outside: u32) -> bool {
+    if lower.rows().n() != upper.rows().n() || lower.size() != 0 || upper.size() != 0 {
+        return false;
     }
-    let inside = points.included(&whole) && empty.included(points) && points.equal(points);
-    let outside = whole.included(points) || points.included(&empty) || points.equal(&whole);
-    Ok(inside && !outside && whole.first_outside(points) == Some(0))
+    if upper.included(lower) || lower.equal(upper) {
+        return false;
+    }
+    lower.included(upper) && lower.equal(lower) && upper.first_outside(lower) == Some(outside)
 }
 
 fn calls<S: Scalar>(alloc: Global) -> Result<bool, Fail> {
@@ -48,7 +44,8 @@ fn calls<S: Scalar>(alloc: Global) -> Result<bool, Fail> {
         " 0 - 0 -; 0 0 - -;",
         shown(alloc, back.rows())?.as_str(),
     )?;
-    Ok(compares(alloc, &points)?)
+    let empty = Poly::empty(alloc, 4);
+    Ok(is_below(&points, &whole, 0) && is_below(&empty, &points, 0))
 }
 
 #[test]

@@ -1,5 +1,8 @@
 //! Operations on cones with few rows, worked out by hand.
 
+ghost use Rattle.std.specs.Prelude.{◌≡◌, ◌≤◌};
+ghost use Rattle.trop_theory.specs.Vectors.{rows_size};
+
 use crate::cones::{NONE, Numbers, O, cone, element, inequality, same_text, shown};
 use std::alloc::Global;
 use std::test::Fail;
@@ -274,20 +277,60 @@ const IN_TRUTH_VALUES: [Case; 12] = [
     },
 ];
 
-fn answer<S: Scalar>(alloc: Global, case: &Case) -> Result<Poly<S>, PolyErr> {
-    let operand: Poly<S> = cone(alloc, case.rows)?;
-    match case.call {
-        Call::Copy => Ok(operand.copy(alloc)?),
-        Call::Join(rows) => operand.join(alloc, &cone(alloc, rows)?),
-        Call::Meet(rows) => operand.meet(alloc, &cone(alloc, rows)?),
+fn joined<S: Scalar>(
+    alloc: Global,
+    operand: &Poly<S>,
+    rows: [Numbers; 3],
+) -> Result<Poly<S>, PolyErr>
+    requires width { operand.now.n ≡ 4 }
+    requires size { rows_size S.ring operand.now.rows ≤ 65534 }
+{
+    let other = cone(alloc, rows)?;
+    operand.join(alloc, &other)
+}
+
+fn met<S: Scalar>(alloc: Global, operand: &Poly<S>, rows: [Numbers; 3]) -> Result<Poly<S>, PolyErr>
+    requires width { operand.now.n ≡ 4 }
+    requires size { rows_size S.ring operand.now.rows ≤ 65534 }
+{
+    let other = cone(alloc, rows)?;
+    operand.meet(alloc, &other)
+}
+
+fn guarded<S: Scalar>(
+    alloc: Global,
+    operand: &Poly<S>,
+    left: Numbers,
+    right: Numbers,
+) -> Result<Poly<S>, PolyErr>
+    requires width { operand.now.n ≡ 4 }
+    requires size { rows_size S.ring operand.now.rows ≤ 65534 }
+{
+    let ineq = inequality(alloc, left, right)?;
+    operand.guard(alloc, &ineq)
+}
+
+fn copied<S: Scalar>(alloc: Global, operand: &Poly<S>) -> Result<Poly<S>, PolyErr> {
+    Ok(operand.copy(alloc)?)
+}
+
+fn called<S: Scalar>(alloc: Global, operand: &Poly<S>, call: Call) -> Result<Poly<S>, PolyErr>
+    requires width { operand.now.n ≡ 4 }
+    requires size { rows_size S.ring operand.now.rows ≤ 65534 }
+{
+    match call {
+        Call::Copy => copied(alloc, operand),
+        Call::Join(rows) => joined(alloc, operand, rows),
+        Call::Meet(rows) => met(alloc, operand, rows),
         Call::Forget(i) => operand.forget(alloc, i % 4),
         Call::Assign(i, from, number) => operand.assign(alloc, i % 4, from % 4, element(number)),
-        Call::Guard(left, right) => operand.guard(alloc, &inequality(alloc, left, right)?),
+        Call::Guard(left, right) => guarded(alloc, operand, left, right),
     }
 }
 
 fn answers<S: Scalar>(alloc: Global, case: &Case) -> Result<bool, Fail> {
-    let got = answer::<S>(alloc, case)?;
+    let operand: Poly<S> = cone(alloc, case.rows)?;
+    let got = called(alloc, &operand, case.call)?;
     same_text(alloc, case.wanted, shown(alloc, got.rows())?.as_str())
 }
 

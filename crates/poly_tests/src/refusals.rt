@@ -1,10 +1,10 @@
 //! Cones over the limit of rows, and the texts of errors.
-ghost use Rattle.std.specs.Prelude.{◌≡◌, ◌≤◌, IfOk};
+ghost use Rattle.std.specs.Prelude.{◌≡◌, ◌+◌, ◌^◌, ◌<◌, ◌≤◌, IfOk, OnOk, length};
 ghost use Rattle.trop_theory.specs.Vectors.{rows_size};
 ghost use Rattle.trop_scalar.specs.MaxPlus.{max_ring};
 
 use crate::cones::{O, row, same_text};
-use std::alloc::Global;
+use std::alloc::{AllocError, Global};
 use std::test::Fail;
 use trop_dd::DdErr;
 use trop_guard::GuardErr;
@@ -12,7 +12,23 @@ use trop_poly::{Poly, PolyErr};
 use trop_row::Gens;
 use trop_scalar::MaxInt;
 
-// The points (i, -i) of so many numbers from `low` on: none of them is a combination of others.
+type NoMemory = AllocError;
+
+// Puts the point (number, -number) behind the rows.
+fn push_stair(alloc: Global, gens: &mut Gens<MaxInt>, number: i16) -> Result<(), NoMemory>
+    requires width { gens.old.n ≡ 4 }
+    requires room { length gens.old.rows < 2 ^ 31 }
+    requires size { rows_size max_ring gens.old.rows ≤ 32767 }
+    ensures width { gens.new.n ≡ 4 }
+    ensures len { OnOk result (length gens.new.rows ≡ length gens.old.rows + 1) }
+    ensures size { OnOk result (rows_size max_ring gens.new.rows ≤ 32767) }
+{
+    let point = row(alloc, [0, number, number.wrapping_neg(), O])?;
+    gens.push(point)?;
+    Ok(())
+}
+
+// The points of so many numbers from `low` on: none of them is a combination of others.
 fn stairs(alloc: Global, low: i16, count: u16) -> Result<Poly<MaxInt>, PolyErr>
     ensures width { IfOk result (λ cone. cone.n ≡ 4) }
     ensures size { IfOk result (λ cone. rows_size max_ring cone.rows ≤ 65534) }
@@ -20,7 +36,7 @@ fn stairs(alloc: Global, low: i16, count: u16) -> Result<Poly<MaxInt>, PolyErr>
     let mut gens = Gens::new(alloc, 4);
     let mut number = low;
     for _k in 0..count {
-        gens.push(row(alloc, [0, number, number.wrapping_neg(), O])?)?;
+        push_stair(alloc, &mut gens, number)?;
         number = number.wrapping_add(1);
     }
     Poly::from_gens(alloc, &gens)
