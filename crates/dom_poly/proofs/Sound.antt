@@ -29,8 +29,8 @@ pub one_more : {V : Type 0} (cone : Cone V) → 1 ≤ cone.n → suc (cone.n - 1
 one_more cone l = omega arith
 
 -- the number of coordinates of a value's cone
-pub value_width : {V : Type 0} (cone : Cone V) (kept : Option (InequalityList V)) (v : Value V) → value_of cone kept ≡ v →
-    1 ≤ cone.n → cone.n ≡ suc v.vars
+pub value_width : {V : Type 0} (cone : Cone V) (kept : Option (InequalityList V)) (v : Value V) →
+    value_of cone kept ≡ v → 1 ≤ cone.n → cone.n ≡ suc v.vars
 value_width cone kept v e l = sym (one_more cone l) ∙ ap (λ (w : Value _). suc w.vars) e
 
 module _ {V : Type 0} (R : Semiring V) (cone : Cone V) (least : 1 ≤ cone.n) where

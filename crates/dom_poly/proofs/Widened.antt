@@ -67,7 +67,8 @@ module _ {V : Type 0} {R : Semiring V} (laws : SemiringLaws R) where
   solved_refused n list (cones.Polar i k) h = absurd h
   solved_refused n list cones.NoMemory h = tt
 
-module _ {V : Type 0} {R : Semiring V} (laws : SemiringLaws R) (N : Numbering V) (reversed : Bool) (v next : Value V) where
+module _ {V : Type 0} {R : Semiring V} (laws : SemiringLaws R) (N : Numbering V) (reversed : Bool)
+    (v next : Value V) where
   widening_free : (list : InequalityList V) → IsKept R v next list →
       ((cause : Cause) (k : ℕ) → IsListRefused R (coordinates v) list.inequalities cause k → ⊥) → (cause : Cause)
       (at : At) → IsPartRefused R v next cause at → ⊥

@@ -23,7 +23,8 @@ struct Case {
 }
 
 const COPYING: &str =
-    "vars ls n ld; assume ls >= 0; ld := 0; while ld < n && ld < ls { ld := ld + 1; } if ld >= n { havoc ld; assume ld >= n; } assert min(ls, n) = min(ld, n);";
+    "vars ls n ld; assume ls >= 0; ld := 0; while ld < n && ld < ls { ld := ld + 1; } \
+    if ld >= n { havoc ld; assume ld >= n; } assert min(ls, n) = min(ld, n);";
 
 const COUNTING: &str = "vars i; i := 0; while i < 10 { i := i + 1; }";
 

@@ -92,7 +92,8 @@ returns-in-Set g c =
     subst₂ (λ m rows. IsTrue b ↔ HasPoint R (IsCombination R m rows)) c.rows-rows.ensures.width
     c.rows-rows.ensures.rows c.has_point-in-Set.ensures in
     let fits = subst (λ o. IsOpIn c.args.cone.now.n (op_of o)) c.in-Set.is c.requires.fits in
-    let point = sets_point R N reversed c.args.cone.now.n (InCone R c.args.cone.now) c.in-Set.var (term_of c.in-Set.value) fits.0.0 in
+    let point = sets_point R N reversed c.args.cone.now.n (InCone R c.args.cone.now) c.in-Set.var
+    (term_of c.in-Set.value) fits.0.0 in
     subst (λ o. IsTrue b ↔ HasPoint R (InMoved R N reversed c.args.cone.now.n (op_of o) (InCone R c.args.cone.now)))
     (sym c.in-Set.is) (λ t. point.0 (told.0 t), λ h. told.1 (point.1 h))
 

@@ -24,4 +24,5 @@ pub returns-in-Err : goal.returns-in-Err
 returns-in-Err g c =
     subst (λ err. IsSolvedFor g.S.Scalar.ring c.args.list.n c.args.list.inequalities (Err err))
     (sym c.refused_part.ensures)
-    (solved_refused g.met.S.Scalar.ring_laws c.args.list.n c.args.list.inequalities c.in-Err.err c.in-Err.ensures.refused)
+    (solved_refused g.met.S.Scalar.ring_laws c.args.list.n c.args.list.inequalities c.in-Err.err
+    c.in-Err.ensures.refused)
