@@ -1,6 +1,6 @@
 -- What every value keeps, from what is known of its cone and its list.
-use Rattle.std.proofs.Common.{◌≡◌, ◌<◌, ◌≤◌, ◌-◌, ℕ, zero, suc, List, [], length, Option, Some, None, sym, ap, ◌∙◌, refl, subst, arith, ◌∷◌, ◌==◌, false, eq-eqb, eqb-true, true≢false}
-use Rattle.std.specs.Prelude.{All, ◌↔◌, MatchOption, IsTrue, min, max}
+use Rattle.std.proofs.Common.{◌≡◌, ◌≤◌, ◌-◌, ℕ, zero, suc, List, [], length, Option, Some, None, sym, ap, ◌∙◌, refl, subst, arith, ◌∷◌, ◌==◌, false, eq-eqb, eqb-true, true≢false}
+use Rattle.std.specs.Prelude.{All, ◌↔◌, MatchOption, IsTrue}
 use Rattle.trop_theory.specs.Semiring.{Semiring, SemiringLaws}
 use Rattle.trop_theory.specs.Vectors.{rows_size, row_size, bottom, AreWide}
 use Rattle.trop_theory.specs.Inequalities.{Inequality, Solves, IsIn, system_size}
@@ -14,11 +14,10 @@ use Rattle.trop_cones.proofs.Generated.{units_below, units_below_canonical}
 use Rattle.trop_row.specs.Lists.{InequalityList}
 use Rattle.trop_poly.specs.Cones.{Cone, InCone}
 use Rattle.trop_poly.proofs.Kept.{everything_solves}
-use Rattle.trop_theory.proofs.Canonical.{IsCanonical-same}
 use Rattle.cone_reports.specs.EdgeLists.{unit_row}
 use Rattle.cone_domain.specs.Values.{Value, Describes, IsValue}
 use Rattle.cone_domain.specs.Refused.{most_value}
-use Rattle.cone_domain.specs.Polyhedra.{nothing, everything, unit_rows, greatest_width, width_of}
+use Rattle.cone_domain.specs.Polyhedra.{nothing, everything, unit_rows, width_of}
 use Rattle.cone_domain.proofs.Values.{value_same}
 use Rattle.cone_domain.proofs.States.{unit_rows_are}
 use Rattle.dom_poly.specs.Views.{value_of, list_of}

@@ -1,18 +1,16 @@
-use Rattle.std.proofs.Common.{◌≡◌, ◌≤◌, ◌<◌, ◌+◌, ◌^◌, suc, sym, ap, ◌∙◌, subst, subst₂, arith, refl}
-use Rattle.std.specs.Prelude.{◌↔◌, IsTrue, Ok, Err, IfOk, IfErr}
+use Rattle.std.proofs.Common.{◌≡◌, ◌+◌, ◌^◌, sym, ap, ◌∙◌, subst, subst₂, arith}
+use Rattle.std.specs.Prelude.{◌↔◌, IsTrue}
 use Rattle.trop_theory.specs.Vectors.{rows_size}
-use Rattle.trop_theory.specs.Inequalities.{IsIn, InGuard, inequality_size}
+use Rattle.trop_theory.specs.Inequalities.{IsIn, InGuard}
 use Rattle.trop_theory.specs.Combinations.{IsCombination}
 use Rattle.prog_theory.specs.Each.{EachOp}
 use Rattle.prog_theory.specs.Within.{IsNumberWithin}
-use Rattle.prog_theory.specs.Edges as edges
 use Rattle.prog_tree.specs.Terms.{term_of}
 use Rattle.prog_graph.specs.Views.{op_of}
 use Rattle.trop_poly.specs.Cones.{InCone}
 use Rattle.cone_reports.specs.Sides.{guard_inequality}
 use Rattle.cone_reports.specs.Images.{InMoved, HasPoint}
 use Rattle.dom_poly.specs.Views.{IsOpIn}
-use Rattle.dom_poly.specs.Answers.{IsConeFor}
 use Rattle.dom_poly.proofs.Moves.{sets_point, havocs_point, guard_small}
 use Rattle.dom_poly.proofs.image.leaves_point.Goals as goal
 

@@ -1,4 +1,4 @@
-use Rattle.std.proofs.Common.{suc, inl, sym, ap, ◌∙◌, subst, arith}
+use Rattle.std.proofs.Common.{suc, inl, sym, ap, ◌∙◌, arith}
 use Rattle.trop_theory.specs.Vectors.{rows_size}
 use Rattle.trop_theory.specs.Inequalities.{system_size}
 use Rattle.cone_domain.specs.Values.{Value}

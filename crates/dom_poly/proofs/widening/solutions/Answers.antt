@@ -1,6 +1,5 @@
-use Rattle.std.proofs.Common.{◌≤◌, sym, ap, ◌∙◌, subst, arith}
+use Rattle.std.proofs.Common.{◌≤◌, sym, subst}
 use Rattle.dom_poly.specs.Lists.{IsSolvedFor}
-use Rattle.dom_poly.specs.Answers.{at_part}
 use Rattle.std.specs.Prelude.{Err}
 use Rattle.trop_cones.specs.Represents.{Represents}
 use Rattle.trop_theory.specs.Inequalities.{Solves}
