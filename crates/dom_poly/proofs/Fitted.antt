@@ -1,9 +1,9 @@
 -- Values of sets, and why there is none.
-use Rattle.std.proofs.Common.{◌≡◌, ◌<◌, ◌≤◌, ◌-◌, ℕ, suc, Bool, List, length, Some, None, refl, sym, ap, ◌∙◌, subst, arith}
-use Rattle.std.specs.Prelude.{◌↔◌, Result, Ok, Err, IfOk, IfErr}
+use Rattle.std.proofs.Common.{◌≡◌, ◌≤◌, ℕ, suc, Bool, List, refl, sym, ap, ◌∙◌, subst, arith}
+use Rattle.std.specs.Prelude.{Result, Ok, Err, IfOk, IfErr}
 use Rattle.trop_theory.specs.Semiring.{Semiring, SemiringLaws}
 use Rattle.trop_theory.specs.Vectors.{rows_size}
-use Rattle.trop_theory.specs.Numbers.{Numbering, NumericLaws}
+use Rattle.trop_theory.specs.Numbers.{Numbering}
 use Rattle.trop_theory.specs.Canonical.{IsCanonical}
 use Rattle.trop_theory.proofs.Distinct.{within_limit}
 use Rattle.trop_theory.proofs.Unique.{IsCanonical-unique}
@@ -22,11 +22,10 @@ use Rattle.dom_core.specs.Views.{at_of}
 use Rattle.dom_core.specs.Answers.{IsAnswer}
 use Rattle.dom_theory.specs.Relations.{Apply, Join, Cause, OverLimit, OutOfRange}
 use Rattle.cone_reports.specs.Images.{InImage}
-use Rattle.cone_domain.specs.Values.{Value, coordinates, cone_of, IsValue, IsFreshFor}
-use Rattle.cone_domain.specs.Refused.{most_value, IsRefusedFor, IsTooLarge}
+use Rattle.cone_domain.specs.Values.{Value, coordinates, cone_of, IsValue}
+use Rattle.cone_domain.specs.Refused.{most_value, IsRefusedFor}
 use Rattle.cone_domain.specs.Polyhedra.{polyhedra}
-use Rattle.dom_poly.specs.Views.{value_of}
-use Rattle.dom_poly.specs.Answers.{IsConeFor, IsFitted, IsFittedFrom, IsValueFor, at_whole}
+use Rattle.dom_poly.specs.Answers.{IsConeFor, IsFittedFrom, IsValueFor}
 use Rattle.dom_poly.proofs.Named.{cone_as}
 
 module _ {V : Type 0} (R : Semiring V) where

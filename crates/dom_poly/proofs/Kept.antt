@@ -1,6 +1,5 @@
 -- The kept list.
-use Rattle.std.proofs.Common.{◌≡◌, ◌≢◌, ◌<◌, ◌≤◌, ◌+◌, ◌*◌, ◌-◌, ◌^◌, ℕ, zero, suc, List, [], ◌∷◌, ◌++◌, length, take, get_or, Option, Some, None, inl, inr, sym, ap, ◌∙◌, refl, subst, arith}
-use Rattle.std.specs.Prelude.{◌↔◌, All}
+use Rattle.std.proofs.Common.{◌≡◌, ◌<◌, ◌≤◌, ◌+◌, ◌*◌, ◌-◌, ◌^◌, ℕ, zero, suc, List, [], ◌∷◌, ◌++◌, length, take, get_or, Some, None, inr, sym, ap, ◌∙◌, refl, subst, arith}
 use Rattle.std.proofs.Math.Nat.{mul-le-mul_left}
 use Rattle.std.proofs.lemmas.List.{take_more}
 use Rattle.trop_theory.specs.Semiring.{Semiring, SemiringLaws}
@@ -23,7 +22,6 @@ use Rattle.trop_poly.specs.Cones.{Cone, InCone}
 use Rattle.trop_poly.specs.Refusals.{IsExternalRefusal}
 use Rattle.trop_poly.specs.declared.error.PolyErr.{PolyErr}
 use Rattle.trop_poly.specs.declared.error.PolyErr.TheVariants as cones
-use Rattle.dom_poly.specs.Views.{value_of}
 use Rattle.dom_poly.specs.Lists.{IsKept, IsKeptFor}
 use Rattle.dom_poly.proofs.Named.{cone_as}
 

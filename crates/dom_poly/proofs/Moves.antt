@@ -1,11 +1,11 @@
 -- The image of a cone: what an operation makes of it where that has a point, and else bottom alone.
-use Rattle.std.proofs.Common.{◌≡◌, ◌≢◌, ◌<◌, ◌≤◌, inl, inr, ℕ, Bool, true, false, List, [], length, refl, sym, ap, ◌∙◌, subst, arith}
-use Rattle.std.specs.Prelude.{◌↔◌, Result, Ok, Err, IsTrue, max}
+use Rattle.std.proofs.Common.{◌≡◌, ◌<◌, ◌≤◌, inl, inr, ℕ, Bool, true, false, List, refl, sym, ap, ◌∙◌, subst, arith}
+use Rattle.std.specs.Prelude.{◌↔◌, Result, Ok, Err}
 use Rattle.std.proofs.lemmas.List.{get_or-set_other}
 use Rattle.trop_theory.specs.Semiring.{Semiring, SemiringLaws}
 use Rattle.trop_theory.specs.Vectors.{entry, bottom, row_size}
 use Rattle.trop_theory.specs.Numbers.{Numbering, NumericLaws}
-use Rattle.trop_theory.specs.Inequalities.{Inequality, InGuard, inequality_size}
+use Rattle.trop_theory.specs.Inequalities.{Inequality, inequality_size}
 use Rattle.trop_theory.specs.Combinations.{IsCombination}
 use Rattle.trop_cones.specs.Sets.{IsBottom, assigned}
 use Rattle.trop_cones.specs.Represents.{Represents}
@@ -16,10 +16,10 @@ use Rattle.trop_poly.specs.Cones.{Cone}
 use Rattle.trop_poly.specs.declared.error.PolyErr.{PolyErr}
 use Rattle.trop_poly.specs.declared.error.PolyErr.TheVariants as cones
 use Rattle.prog_theory.specs.States.{Term}
-use Rattle.prog_theory.specs.Edges.{Op, Skips, Sets, Havocs, Guards}
+use Rattle.prog_theory.specs.Edges.{Sets, Havocs}
 use Rattle.prog_theory.specs.Within.{IsNumberWithin}
 use Rattle.cone_reports.specs.Sides.{term_side, guard_inequality}
-use Rattle.cone_reports.specs.Images.{InMoved, HasPoint, InPointed, InImage}
+use Rattle.cone_reports.specs.Images.{InMoved, HasPoint, InPointed}
 use Rattle.dom_poly.specs.Answers.{IsConeFor}
 
 module _ {V : Type 0} (R : Semiring V) (N : Numbering V) (reversed : Bool) (n : ℕ) (cone : List V → Type 0) where

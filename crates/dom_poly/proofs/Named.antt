@@ -1,22 +1,20 @@
 -- The same cone by the names of its parts.
-use Rattle.std.proofs.Common.{◌≡◌, ◌<◌, ◌≤◌, ℕ, suc, Bool, List, refl, sym, ap, ◌∙◌, subst, subst₂, arith}
-use Rattle.std.specs.Prelude.{◌↔◌, All, IsTrue}
+use Rattle.std.proofs.Common.{◌≡◌, ℕ, suc, Bool, List, sym, subst, subst₂, arith}
+use Rattle.std.specs.Prelude.{◌↔◌, IsTrue}
 use Rattle.trop_theory.specs.Semiring.{Semiring}
 use Rattle.trop_theory.specs.Combinations.{IsCombination}
 use Rattle.trop_poly.specs.Cones.{Cone, InCone}
 use Rattle.trop_poly.proofs.Kept.{cone_is}
 use Rattle.prog_theory.specs.Edges.{Op, Skips, Sets, Havocs, Guards}
 use Rattle.prog_theory.specs.Fits.{FitsOp}
-use Rattle.prog_theory.specs.States.{Term}
 use Rattle.prog_theory.specs.Statements.{Claim}
-use Rattle.prog_theory.specs.Within.{IsNumberWithin}
 use Rattle.trop_theory.specs.Numbers.{Numbering}
 use Rattle.cone_reports.specs.Readings.{IsProvenOn}
 use Rattle.cone_domain.specs.Operations.{IsIncluded}
 use Rattle.cone_domain.specs.Polyhedra.{IsProvenBy}
 use Rattle.dom_core.specs.Claims.{FitsClaim}
-use Rattle.cone_claims.specs.Terms.{IsOn, IsClaimOn}
-use Rattle.cone_domain.specs.Values.{Value, coordinates, cone_of}
+use Rattle.cone_claims.specs.Terms.{IsClaimOn}
+use Rattle.cone_domain.specs.Values.{Value, cone_of}
 use Rattle.dom_poly.specs.Views.{IsOpIn}
 
 module _ {V : Type 0} (v : Value V) (cone : Cone V) (width : cone.n ≡ suc v.vars) (same : cone.rows ≡ v.rows) where

@@ -1,6 +1,6 @@
 -- What every value keeps, from what is known of its cone and its list.
-use Rattle.std.proofs.Common.{◌≡◌, ◌<◌, ◌≤◌, ◌-◌, ℕ, zero, suc, List, [], length, Option, Some, None, sym, ap, ◌∙◌, refl, subst, arith, ◌∷◌, ◌==◌, false, eq-eqb, eqb-true, true≢false}
-use Rattle.std.specs.Prelude.{All, ◌↔◌, MatchOption, IsTrue, min, max}
+use Rattle.std.proofs.Common.{◌≡◌, ◌≤◌, ◌-◌, ℕ, zero, suc, List, [], length, Option, Some, None, sym, ap, ◌∙◌, refl, subst, arith, ◌∷◌, ◌==◌, false, eq-eqb, eqb-true, true≢false}
+use Rattle.std.specs.Prelude.{All, ◌↔◌, MatchOption, IsTrue}
 use Rattle.trop_theory.specs.Semiring.{Semiring, SemiringLaws}
 use Rattle.trop_theory.specs.Vectors.{rows_size, row_size, bottom, AreWide}
 use Rattle.trop_theory.specs.Inequalities.{Inequality, Solves, IsIn, system_size}
@@ -14,11 +14,10 @@ use Rattle.trop_cones.proofs.Generated.{units_below, units_below_canonical}
 use Rattle.trop_row.specs.Lists.{InequalityList}
 use Rattle.trop_poly.specs.Cones.{Cone, InCone}
 use Rattle.trop_poly.proofs.Kept.{everything_solves}
-use Rattle.trop_theory.proofs.Canonical.{IsCanonical-same}
 use Rattle.cone_reports.specs.EdgeLists.{unit_row}
 use Rattle.cone_domain.specs.Values.{Value, Describes, IsValue}
 use Rattle.cone_domain.specs.Refused.{most_value}
-use Rattle.cone_domain.specs.Polyhedra.{nothing, everything, unit_rows, greatest_width, width_of}
+use Rattle.cone_domain.specs.Polyhedra.{nothing, everything, unit_rows, width_of}
 use Rattle.cone_domain.proofs.Values.{value_same}
 use Rattle.cone_domain.proofs.States.{unit_rows_are}
 use Rattle.dom_poly.specs.Views.{value_of, list_of}
@@ -29,8 +28,8 @@ pub one_more : {V : Type 0} (cone : Cone V) → 1 ≤ cone.n → suc (cone.n - 1
 one_more cone l = omega arith
 
 -- the number of coordinates of a value's cone
-pub value_width : {V : Type 0} (cone : Cone V) (kept : Option (InequalityList V)) (v : Value V) → value_of cone kept ≡ v →
-    1 ≤ cone.n → cone.n ≡ suc v.vars
+pub value_width : {V : Type 0} (cone : Cone V) (kept : Option (InequalityList V)) (v : Value V) →
+    value_of cone kept ≡ v → 1 ≤ cone.n → cone.n ≡ suc v.vars
 value_width cone kept v e l = sym (one_more cone l) ∙ ap (λ (w : Value _). suc w.vars) e
 
 module _ {V : Type 0} (R : Semiring V) (cone : Cone V) (least : 1 ≤ cone.n) where

@@ -1,6 +1,6 @@
 -- The widening as an answer.
-use Rattle.std.proofs.Common.{◌≡◌, ◌<◌, ◌≤◌, ◌-◌, ℕ, suc, Bool, List, length, Some, None, refl, sym, ap, ◌∙◌, subst, arith}
-use Rattle.std.specs.Prelude.{◌↔◌, Result, Ok, Err}
+use Rattle.std.proofs.Common.{◌≡◌, ◌≤◌, ℕ, Bool, List, refl, sym, ap, subst, arith}
+use Rattle.std.specs.Prelude.{Result, Ok, Err}
 use Rattle.trop_theory.specs.Semiring.{Semiring, SemiringLaws}
 use Rattle.trop_theory.specs.Vectors.{rows_size}
 use Rattle.trop_theory.specs.Numbers.{Numbering}
@@ -21,13 +21,12 @@ use Rattle.dom_core.specs.Answers.{IsAnswer}
 use Rattle.dom_theory.specs.Refusals.{At, Whole, Polar, Kept}
 use Rattle.dom_theory.specs.Relations.{Widen, Cause, OverLimit, OutOfRange}
 use Rattle.cone_domain.specs.Values.{Value, coordinates, IsValue}
-use Rattle.cone_domain.specs.Operations.{IsIncluded, IsKeptList}
-use Rattle.cone_domain.specs.Refused.{most_value, IsListRefused, IsPartRefused, IsTooLarge}
+use Rattle.cone_domain.specs.Operations.{IsIncluded}
+use Rattle.cone_domain.specs.Refused.{most_value, IsListRefused, IsPartRefused}
 use Rattle.cone_domain.specs.Polyhedra.{polyhedra}
 use Rattle.cone_domain.proofs.Answers.{kept_unique}
-use Rattle.dom_poly.specs.Views.{value_of}
 use Rattle.dom_poly.specs.Answers.{at_part}
-use Rattle.dom_poly.specs.Lists.{IsKept, IsKeptFor, IsListed, IsSolved, IsSolvedFor}
+use Rattle.dom_poly.specs.Lists.{IsKept, IsKeptFor, IsListed, IsSolvedFor}
 
 module _ {V : Type 0} {R : Semiring V} (laws : SemiringLaws R) where
   solved_free : (n : ℕ) (list : List (Inequality V)) (rows : List (List V)) → Represents R n (Solves R n list) rows →
@@ -67,7 +66,8 @@ module _ {V : Type 0} {R : Semiring V} (laws : SemiringLaws R) where
   solved_refused n list (cones.Polar i k) h = absurd h
   solved_refused n list cones.NoMemory h = tt
 
-module _ {V : Type 0} {R : Semiring V} (laws : SemiringLaws R) (N : Numbering V) (reversed : Bool) (v next : Value V) where
+module _ {V : Type 0} {R : Semiring V} (laws : SemiringLaws R) (N : Numbering V) (reversed : Bool)
+    (v next : Value V) where
   widening_free : (list : InequalityList V) → IsKept R v next list →
       ((cause : Cause) (k : ℕ) → IsListRefused R (coordinates v) list.inequalities cause k → ⊥) → (cause : Cause)
       (at : At) → IsPartRefused R v next cause at → ⊥

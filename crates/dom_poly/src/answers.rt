@@ -1,9 +1,8 @@
 //! What a call answers where it has a cone or a refusal.
-ghost use Rattle.std.specs.Prelude.{◌≡◌, ◌≤◌};
+ghost use Rattle.std.specs.Prelude.{◌≡◌, ◌≤◌, length};
 ghost use Rattle.trop_theory.specs.Inequalities.{Solves, system_size};
 ghost use Rattle.trop_theory.specs.Canonical.{row_limit};
 ghost use Rattle.trop_cones.specs.Represents.{Represents};
-ghost use Rattle.std.specs.Prelude.{length};
 ghost use Rattle.dom_poly.specs.Kept.{most_kept};
 ghost use Rattle.dom_poly.specs.Answers.{at_whole, at_part, IsFitted, IsFittedFrom};
 ghost use Rattle.dom_poly.specs.Lists.{IsListed};

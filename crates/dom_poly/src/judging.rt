@@ -1,5 +1,5 @@
 //! Which inequalities of a list are valid on a cone.
-ghost use Rattle.std.specs.Prelude.{◌≡◌, ◌+◌, ◌≤◌, ◌↔◌, All, IsTrue, IfOk, length};
+ghost use Rattle.std.specs.Prelude.{◌≡◌, ◌+◌, ◌≤◌, ◌↔◌, All, IsTrue, IfOk};
 ghost use Rattle.trop_theory.specs.Vectors.{rows_size, AreWide};
 ghost use Rattle.trop_theory.specs.Inequalities.{IsIn, IsTrueAt, IsValidOn, inequality_size, system_size};
 ghost use Rattle.trop_theory.specs.Combinations.{IsCombination};

@@ -1,10 +1,10 @@
 //! The values: how one is kept, how it is made, and what it tells.
-ghost use Rattle.std.specs.Prelude.{◌≡◌, ◌-◌, ◌+◌, ◌≤◌, ◌↔◌, suc, length, None, Some, MatchOption, IsTrue, IfOk};
-ghost use Rattle.trop_theory.specs.Vectors.{rows_size, AreWide};
+ghost use Rattle.std.specs.Prelude.{◌≡◌, ◌≤◌, ◌↔◌, suc, length, None, Some, MatchOption, IsTrue, IfOk};
+ghost use Rattle.trop_theory.specs.Vectors.{rows_size};
 ghost use Rattle.trop_theory.specs.Inequalities.{Solves, system_size};
-ghost use Rattle.trop_theory.specs.Canonical.{IsCanonical, row_limit};
+ghost use Rattle.trop_theory.specs.Canonical.{row_limit};
 ghost use Rattle.trop_cones.specs.Represents.{Represents};
-ghost use Rattle.cone_domain.specs.Values.{IsValue, cone_of};
+ghost use Rattle.cone_domain.specs.Values.{IsValue};
 ghost use Rattle.cone_domain.specs.Operations.{IsIncluded};
 ghost use Rattle.cone_domain.specs.Refused.{most_value};
 ghost use Rattle.cone_domain.specs.Polyhedra.{nothing, everything, width_of, IsProvenBy};

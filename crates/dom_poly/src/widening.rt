@@ -1,5 +1,5 @@
 //! The widening, which never builds its list again.
-ghost use Rattle.std.specs.Prelude.{◌≡◌, ◌≤◌, ◌↔◌, length};
+ghost use Rattle.std.specs.Prelude.{◌≡◌, ◌≤◌, length};
 ghost use Rattle.trop_theory.specs.Inequalities.{system_size};
 ghost use Rattle.trop_theory.specs.Canonical.{row_limit};
 ghost use Rattle.dom_theory.specs.Relations.{Widen};

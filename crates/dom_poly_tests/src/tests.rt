@@ -2,4 +2,3 @@
 mod analyses;
 mod reading;
 mod rows;
-mod widening;

@@ -1,11 +1,9 @@
 // Analyses by tropical polyhedra; what is wanted was worked by hand.
-use super::reading::{Source, parsed};
+use super::reading::graph_of;
 use super::rows::rows_text;
 use dom_core::{Domain, Part, Place};
 use dom_iter::{Family, IterErr, analyse};
 use dom_poly::PolyDomain;
-use prog_graph::Point;
-use prog_tree::{Claim, Stmt};
 use std::alloc::Global;
 use std::test::Fail;
 use trop_scalar::{MaxInt, MinInt, Numeric};
@@ -18,16 +16,17 @@ struct Case {
     delay: u32,
     narrow: u32,
 
-    // The passes, the rows of each point, and whether the last assert is proved.
+    // The passes, and for each point the rows, and how long its kept list is where it has one.
     wanted: &'static str,
 }
 
 const COPYING: &str =
-    "vars ls n ld; assume ls >= 0; ld := 0; while ld < n && ld < ls { ld := ld + 1; } if ld >= n { havoc ld; assume ld >= n; } assert min(ls, n) = min(ld, n);";
+    "vars ls n ld; assume ls >= 0; ld := 0; while ld < n && ld < ls { ld := ld + 1; } \
+    if ld >= n { havoc ld; assume ld >= n; } assert min(ls, n) = min(ld, n);";
 
 const COUNTING: &str = "vars i; i := 0; while i < 10 { i := i + 1; }";
 
-const CASES: [Case; 12] = [
+const CASES: [Case; 10] = [
     Case {
         name: "copying a string",
         reversed: true,
@@ -37,15 +36,14 @@ const CASES: [Case; 12] = [
         wanted: "4 passes
 0: . . . 0, . . 0 ., . 0 . ., 0 . . .
 1: . . . 0, . . 0 ., 0 . . ., 0 0 . .
-2: . . 0 ., 0 . . ., 0 . . 0, 0 0 . 0
+2: . . 0 ., 0 . . ., 0 . . 0, 0 0 . 0 kept 3
 3: 0 . . ., 0 . . 0, 0 . 1 0, 0 0 . 0
 4: 0 . . ., 0 . . 0, 0 . 1 0, 0 1 . 0
 5: . . 0 ., 0 . . ., 0 . 0 0, 0 0 . 0
 6: . . 0 ., 0 . . ., 0 . 0 0, 0 0 0 0
 7: . . . 0, . . 0 ., 0 . . ., 0 0 0 .
 8: . . 0 ., . . 0 0, 0 . . ., 0 0 . 0, 0 0 0 .
-9: . . 0 ., . . 0 0, 0 . . ., 0 0 . 0, 0 0 0 .
-proved",
+9: . . 0 ., . . 0 0, 0 . . ., 0 0 . 0, 0 0 0 .",
     },
     Case {
         name: "an endless loop that is widened at once",
@@ -55,10 +53,9 @@ proved",
         narrow: 0,
         wanted: "3 passes
 0: . 0, 0 .
-1: . 0, 0 0
+1: . 0, 0 0 kept 1
 2: . 0, 0 0
-3: . 0, 0 0
-no assert",
+3: . 0, 0 0",
     },
     Case {
         name: "an endless loop that is widened at its third change",
@@ -68,10 +65,9 @@ no assert",
         narrow: 0,
         wanted: "4 passes
 0: . 0, 0 .
-1: . 0, 0 0
+1: . 0, 0 0 kept 1
 2: . 0, 0 0
-3: . 0, 0 0
-no assert",
+3: . 0, 0 0",
     },
     Case {
         name: "a loop that is not entered",
@@ -83,8 +79,7 @@ no assert",
 0: . 0, 0 .
 1: 0 0
 2: 
-3: 0 0
-no assert",
+3: 0 0",
     },
     Case {
         name: "no statement",
@@ -93,8 +88,7 @@ no assert",
         delay: 2,
         narrow: 0,
         wanted: "1 passes
-0: 0
-no assert",
+0: 0",
     },
     Case {
         name: "counting without narrowing",
@@ -104,10 +98,9 @@ no assert",
         narrow: 0,
         wanted: "3 passes
 0: . 0, 0 .
-1: . 0, 0 0
+1: . 0, 0 0 kept 1
 2: 0 0, 0 9
-3: . 0, 0 10
-no assert",
+3: . 0, 0 10",
     },
     Case {
         name: "counting with one pass of the narrowing",
@@ -119,11 +112,10 @@ no assert",
 0: . 0, 0 .
 1: 0 0, 0 10
 2: 0 0, 0 9
-3: 0 10
-no assert",
+3: 0 10",
     },
     Case {
-        name: "a claim that is proved",
+        name: "a bound that is assumed",
         reversed: false,
         program: "vars x y; havoc x; assume x <= 3; y := x + 1; assert y <= 4;",
         delay: 2,
@@ -133,35 +125,7 @@ no assert",
 1: . . 0, . 0 ., 0 . .
 2: . . 0, 0 . ., 0 3 .
 3: 0 . ., 0 3 4
-4: 0 . ., 0 3 4
-proved",
-    },
-    Case {
-        name: "a claim that is not",
-        reversed: false,
-        program: "vars x y; havoc x; assume x <= 3; y := x + 1; assert y <= 3;",
-        delay: 2,
-        narrow: 0,
-        wanted: "1 passes
-0: . . 0, . 0 ., 0 . .
-1: . . 0, . 0 ., 0 . .
-2: . . 0, 0 . ., 0 3 .
-3: 0 . ., 0 3 4
-4: 0 . ., 0 3 4
-unknown",
-    },
-    Case {
-        name: "an equality of which one direction holds",
-        reversed: false,
-        program: "vars x; havoc x; assume x <= 3; assert x = 3;",
-        delay: 2,
-        narrow: 0,
-        wanted: "1 passes
-0: . 0, 0 .
-1: . 0, 0 .
-2: 0 ., 0 3
-3: 0 ., 0 3
-unknown",
+4: 0 . ., 0 3 4",
     },
     Case {
         name: "a guard that leaves rays alone",
@@ -176,8 +140,7 @@ unknown",
 3: . . 0, 0 0 .
 4: 0 0 ., 0 0 -1
 5: 
-6: 
-proved",
+6: ",
     },
     Case {
         name: "a number out of range",
@@ -188,34 +151,6 @@ proved",
         wanted: "range: pass 514 point 1 edge 3",
     },
 ];
-
-// Whether the value of the point of the last assert of the program's own block proves its claim.
-fn verdict<S: Numeric>(parsed: &Source, family: &Family<PolyDomain<S>>) -> Option<bool> {
-    let mut number = 0;
-    let mut found: Option<bool> = None;
-    for statement in parsed.program.body().as_slice() {
-        if let Stmt::Assert(claim) = statement {
-            found = value_proves(parsed, family, number, claim);
-        }
-        number += statement.count();
-    }
-    found
-}
-
-fn value_proves<S: Numeric>(
-    parsed: &Source,
-    family: &Family<PolyDomain<S>>,
-    number: u32,
-    claim: &Claim,
-) -> Option<bool> {
-    let points = parsed.graph.points().as_slice();
-    for (point, value) in points.iter().zip(family.values.iter()) {
-        if *point == Point::Statement(number) {
-            return Some(value.proves(claim));
-        }
-    }
-    None
-}
 
 fn place_text(alloc: Global, cause: &str, place: &Place) -> Result<String, Fail> {
     let (pass, point) = (place.pass, place.point);
@@ -229,35 +164,41 @@ fn place_text(alloc: Global, cause: &str, place: &Place) -> Result<String, Fail>
     Ok(format!(in alloc; "{cause}: pass {pass} point {point} {part}")?)
 }
 
-fn family_text<S: Numeric>(
-    alloc: Global,
-    parsed: &Source,
-    family: &Family<PolyDomain<S>>,
-) -> Result<String, Fail> {
+fn family_text<S: Numeric>(alloc: Global, family: &Family<PolyDomain<S>>) -> Result<String, Fail> {
     let passes = family.passes;
     let mut text = format!(in alloc; "{passes} passes")?;
-    let mut point = 0;
-    for value in &family.values {
+    for point in 0..family.values.len() {
+        let value = &family.values[point];
         let rows = rows_text(alloc, value.poly().rows())?;
-        text = format!(in alloc; "{text}\n{point}: {rows}")?;
-        point += 1;
+        let width = value.width();
+        text = if width < 4097 {
+            format!(in alloc; "{text}\n{point}: {rows} kept {width}")?
+        } else {
+            format!(in alloc; "{text}\n{point}: {rows}")?
+        };
     }
-    let told = match verdict(parsed, family) {
-        Some(true) => "proved",
-        Some(false) => "unknown",
-        None => "no assert",
-    };
-    Ok(format!(in alloc; "{text}\n{told}")?)
+    Ok(text)
 }
 
 // What comes of the analysis.
 fn outcome<S: Numeric>(alloc: Global, case: &Case) -> Result<String, Fail> {
-    let parsed = match parsed(alloc, case.program.as_bytes())? {
-        Some(parsed) => parsed,
+    let graph = match graph_of(alloc, case.program.as_bytes())? {
+        Some(graph) => graph,
         None => return Ok(format!(in alloc; "no program")?),
     };
-    match analyse::<PolyDomain<S>>(alloc, &parsed.graph, case.delay, case.narrow) {
-        Ok(family) => family_text(alloc, &parsed, &family),
+    let delay = case.delay;
+    let narrow = case.narrow;
+    if graph.vars() > 63 {
+        return Ok(format!(in alloc; "too many variables")?);
+    }
+    if delay > 1000 {
+        return Ok(format!(in alloc; "too long a delay")?);
+    }
+    if narrow > 100 {
+        return Ok(format!(in alloc; "too much narrowing")?);
+    }
+    match analyse::<PolyDomain<S>>(alloc, &graph, delay, narrow) {
+        Ok(family) => family_text(alloc, &family),
         Err(IterErr::Limit(place)) => place_text(alloc, "limit", &place),
         Err(IterErr::Range(place)) => place_text(alloc, "range", &place),
         Err(IterErr::NoMemory) => Ok(format!(in alloc; "no memory")?),

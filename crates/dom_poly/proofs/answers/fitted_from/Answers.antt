@@ -1,5 +1,5 @@
 use Rattle.std.proofs.Common.{sym, ap, subst}
-use Rattle.std.specs.Prelude.{Ok, Err}
+use Rattle.std.specs.Prelude.{Err}
 use Rattle.dom_poly.specs.Answers.{IsFittedFrom}
 use Rattle.dom_poly.proofs.answers.fitted_from.Goals as goal
 

@@ -1,6 +1,5 @@
-use Rattle.std.proofs.Common.{◌≡◌, ◌≤◌, length, [], ◌∷◌, ◌++◌, take, sym, ap, ◌∙◌, subst, arith}
+use Rattle.std.proofs.Common.{length, [], ◌∷◌, ◌++◌, take, sym, ap, ◌∙◌, subst, arith}
 use Rattle.std.specs.Prelude.{All}
-use Rattle.std.proofs.lemmas.List.{length_push}
 use Rattle.trop_theory.specs.Inequalities.{IsIn}
 use Rattle.dom_poly.proofs.Kept.{same_inequality, taken_more, taken_whole, taken_length}
 use Rattle.dom_poly.proofs.copying.copied_list.Goals as goal

@@ -1,5 +1,4 @@
-use Rattle.std.proofs.Common.{sym, ap, ◌∙◌, subst, arith, true≢false}
-use Rattle.std.specs.Prelude.{IsTrue, Ok}
+use Rattle.std.proofs.Common.{sym, ◌∙◌, subst, true≢false}
 use Rattle.prog_graph.specs.Views.{op_of}
 use Rattle.trop_cones.specs.Sets.{IsBottom}
 use Rattle.trop_cones.specs.Represents.{Represents}

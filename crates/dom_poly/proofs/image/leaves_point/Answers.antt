@@ -1,18 +1,16 @@
-use Rattle.std.proofs.Common.{◌≡◌, ◌≤◌, ◌<◌, ◌+◌, ◌^◌, suc, sym, ap, ◌∙◌, subst, subst₂, arith, refl}
-use Rattle.std.specs.Prelude.{◌↔◌, IsTrue, Ok, Err, IfOk, IfErr}
+use Rattle.std.proofs.Common.{◌≡◌, ◌+◌, ◌^◌, sym, ap, ◌∙◌, subst, subst₂, arith}
+use Rattle.std.specs.Prelude.{◌↔◌, IsTrue}
 use Rattle.trop_theory.specs.Vectors.{rows_size}
-use Rattle.trop_theory.specs.Inequalities.{IsIn, InGuard, inequality_size}
+use Rattle.trop_theory.specs.Inequalities.{IsIn, InGuard}
 use Rattle.trop_theory.specs.Combinations.{IsCombination}
 use Rattle.prog_theory.specs.Each.{EachOp}
 use Rattle.prog_theory.specs.Within.{IsNumberWithin}
-use Rattle.prog_theory.specs.Edges as edges
 use Rattle.prog_tree.specs.Terms.{term_of}
 use Rattle.prog_graph.specs.Views.{op_of}
 use Rattle.trop_poly.specs.Cones.{InCone}
 use Rattle.cone_reports.specs.Sides.{guard_inequality}
 use Rattle.cone_reports.specs.Images.{InMoved, HasPoint}
 use Rattle.dom_poly.specs.Views.{IsOpIn}
-use Rattle.dom_poly.specs.Answers.{IsConeFor}
 use Rattle.dom_poly.proofs.Moves.{sets_point, havocs_point, guard_small}
 use Rattle.dom_poly.proofs.image.leaves_point.Goals as goal
 
@@ -92,7 +90,8 @@ returns-in-Set g c =
     subst₂ (λ m rows. IsTrue b ↔ HasPoint R (IsCombination R m rows)) c.rows-rows.ensures.width
     c.rows-rows.ensures.rows c.has_point-in-Set.ensures in
     let fits = subst (λ o. IsOpIn c.args.cone.now.n (op_of o)) c.in-Set.is c.requires.fits in
-    let point = sets_point R N reversed c.args.cone.now.n (InCone R c.args.cone.now) c.in-Set.var (term_of c.in-Set.value) fits.0.0 in
+    let point = sets_point R N reversed c.args.cone.now.n (InCone R c.args.cone.now) c.in-Set.var
+    (term_of c.in-Set.value) fits.0.0 in
     subst (λ o. IsTrue b ↔ HasPoint R (InMoved R N reversed c.args.cone.now.n (op_of o) (InCone R c.args.cone.now)))
     (sym c.in-Set.is) (λ t. point.0 (told.0 t), λ h. told.1 (point.1 h))
 

@@ -1,16 +1,13 @@
-use Rattle.std.proofs.Common.{◌≡◌, ◌≤◌, ◌<◌, ◌+◌, ◌^◌, suc, sym, ap, ◌∙◌, subst, subst₂, arith, refl}
-use Rattle.std.specs.Prelude.{◌↔◌, IsTrue, Ok, Err, IfOk, IfErr}
-use Rattle.trop_theory.specs.Vectors.{rows_size}
-use Rattle.trop_theory.specs.Inequalities.{IsIn, InGuard, inequality_size}
-use Rattle.trop_theory.specs.Combinations.{IsCombination}
+use Rattle.std.proofs.Common.{◌≡◌, ◌≤◌, ◌+◌, ◌^◌, sym, ap, ◌∙◌, subst, arith, refl}
+use Rattle.std.specs.Prelude.{Ok}
+use Rattle.trop_theory.specs.Inequalities.{IsIn, InGuard}
 use Rattle.prog_theory.specs.Each.{EachOp}
 use Rattle.prog_theory.specs.Within.{IsNumberWithin}
-use Rattle.prog_theory.specs.Edges as edges
 use Rattle.prog_tree.specs.Terms.{term_of}
 use Rattle.prog_graph.specs.Views.{op_of}
 use Rattle.trop_poly.specs.Cones.{InCone}
 use Rattle.cone_reports.specs.Sides.{guard_inequality}
-use Rattle.cone_reports.specs.Images.{InMoved, HasPoint}
+use Rattle.cone_reports.specs.Images.{InMoved}
 use Rattle.dom_poly.specs.Views.{IsOpIn}
 use Rattle.dom_poly.specs.Answers.{IsConeFor}
 use Rattle.dom_poly.proofs.Fitted.{cone_for}

@@ -1,7 +1,6 @@
-use Rattle.std.proofs.Common.{◌≡◌, ◌≤◌, length, [], ◌∷◌, ◌++◌, sym, ap, ◌∙◌, subst, arith, true≢false}
+use Rattle.std.proofs.Common.{◌≤◌, length, [], ◌∷◌, ◌++◌, sym, ap, ◌∙◌, subst, arith, true≢false}
 use Rattle.std.specs.Prelude.{All}
 use Rattle.std.proofs.lemmas.List.{length_push}
-use Rattle.trop_theory.specs.Vectors.{rows_size}
 use Rattle.trop_theory.specs.Inequalities.{IsIn, IsValidOn, inequality_size, system_size}
 use Rattle.trop_theory.specs.Combinations.{IsCombination}
 use Rattle.trop_theory.specs.StepList.{AreChosen}

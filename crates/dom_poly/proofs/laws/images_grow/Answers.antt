@@ -1,4 +1,4 @@
-use Rattle.std.proofs.Common.{refl, sym}
+use Rattle.std.proofs.Common.{refl}
 use Rattle.cone_domain.proofs.Inclusion.{polyhedra_inclusion}
 use Rattle.dom_poly.proofs.laws.images_grow.Goals as goal
 

@@ -1,4 +1,4 @@
-use Rattle.std.proofs.Common.{suc, inl, sym, ap, ◌∙◌, subst, arith}
+use Rattle.std.proofs.Common.{suc, inl, sym, ap, ◌∙◌, arith}
 use Rattle.trop_theory.specs.Vectors.{rows_size}
 use Rattle.trop_theory.specs.Inequalities.{system_size}
 use Rattle.cone_domain.specs.Values.{Value}
@@ -45,13 +45,14 @@ returns-in_ok-valid_part-in-Some g c =
     let R = g.S.Scalar.ring in
     let v = c.args.value.now in
     let base = c.in-Some.list in
-    let held = (list_in g.S.Scalar.ring c.value.inside.cone c.value.inside.kept c.in-Some.list c.in-Some.is c.value.invariant) in
+    let held = list_in R c.value.inside.cone c.value.inside.kept c.in-Some.list c.in-Some.is c.value.invariant in
+    let width = value_width c.value.inside.cone c.value.inside.kept v c.value.view_is c.value.invariant.at_least in
     let kept = sym (ap (λ (w : Value _). w.kept) c.value.view_is) ∙ ap list_of c.in-Some.is in
     let d = described R c.value.inside.cone c.value.inside.kept base c.in-Some.is c.value.invariant in
     kept_of g.met.S.Scalar.ring_laws v c.args.next.now c.rows-rows.result.now.n c.rows-rows.result.now.rows base
     c.in_ok-valid_part-in-Some.field-0 (c.rows-rows.ensures.width ∙ c.poly.ensures.width)
     (c.rows-rows.ensures.rows ∙ c.poly.ensures.rows) (inl kept)
-    (held.0 ∙ (value_width c.value.inside.cone c.value.inside.kept c.args.value.now c.value.view_is c.value.invariant.at_least))
+    (held.0 ∙ width)
     d.few held.1 (kept_unstopped R v base.inequalities kept) c.in_ok-valid_part-in-Some.ensures.width
     c.in_ok-valid_part-in-Some.ensures.chosen
 
@@ -61,7 +62,7 @@ returns-in_ok-valid_part-in-Ok g c =
     let v = c.args.value.now in
     let cone = c.value.inside.cone in
     let base = c.in-Ok.list in
-    let width = (value_width c.value.inside.cone c.value.inside.kept c.args.value.now c.value.view_is c.value.invariant.at_least) in
+    let width = value_width cone c.value.inside.kept v c.value.view_is c.value.invariant.at_least in
     let same = ap (λ (w : Value _). w.rows) c.value.view_is in
     let none = sym (ap (λ (w : Value _). w.kept) c.value.view_is) ∙ ap list_of c.in-None.is in
     kept_of g.met.S.Scalar.ring_laws v c.args.next.now c.rows-rows.result.now.n c.rows-rows.result.now.rows base

@@ -1,6 +1,5 @@
-use Rattle.std.proofs.Common.{◌≤◌, sym, ap, ◌∙◌, subst, arith}
+use Rattle.std.proofs.Common.{◌≤◌, sym, subst}
 use Rattle.dom_poly.specs.Lists.{IsSolvedFor}
-use Rattle.dom_poly.specs.Answers.{at_part}
 use Rattle.std.specs.Prelude.{Err}
 use Rattle.trop_cones.specs.Represents.{Represents}
 use Rattle.trop_theory.specs.Inequalities.{Solves}
@@ -24,4 +23,5 @@ pub returns-in-Err : goal.returns-in-Err
 returns-in-Err g c =
     subst (λ err. IsSolvedFor g.S.Scalar.ring c.args.list.n c.args.list.inequalities (Err err))
     (sym c.refused_part.ensures)
-    (solved_refused g.met.S.Scalar.ring_laws c.args.list.n c.args.list.inequalities c.in-Err.err c.in-Err.ensures.refused)
+    (solved_refused g.met.S.Scalar.ring_laws c.args.list.n c.args.list.inequalities c.in-Err.err
+    c.in-Err.ensures.refused)

@@ -10,7 +10,8 @@ image-requires-clause-fits g c = op_in c.args.self.now c.poly.result.now c.poly.
     (op_of c.args.op.now) c.requires.fits
 
 pub image-requires-clause-small : goal.image-requires-clause-small
-image-requires-clause-small g c = omega (arith, ap (rows_size g.S.Scalar.ring) c.poly.ensures.rows, c.poly.ensures.small)
+image-requires-clause-small g c =
+    omega (arith, ap (rows_size g.S.Scalar.ring) c.poly.ensures.rows, c.poly.ensures.small)
 
 pub returns : goal.returns
 returns g c = image_answered g.met.S.Scalar.ring_laws g.S.Scalar.numbering g.S.Scalar.REVERSED (op_of c.args.op.now)

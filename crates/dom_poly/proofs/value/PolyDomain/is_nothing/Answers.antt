@@ -1,4 +1,4 @@
-use Rattle.std.proofs.Common.{◌≡◌, length, sym, ap, ◌∙◌}
+use Rattle.std.proofs.Common.{length, sym, ap, ◌∙◌}
 use Rattle.cone_domain.specs.Values.{Value}
 use Rattle.dom_poly.specs.Views.{list_of}
 use Rattle.dom_poly.proofs.Sound.{listed_is_not_nothing, nothing_by_rows}

@@ -9,10 +9,12 @@ pub join-requires-clause-width : goal.join-requires-clause-width
 join-requires-clause-width g c = c.poly.ensures.width ∙ ap suc c.requires ∙ sym c.poly-2.ensures.width
 
 pub join-requires-clause-size : goal.join-requires-clause-size
-join-requires-clause-size g c = omega (arith, ap (rows_size g.S.Scalar.ring) c.poly.ensures.rows, c.poly.ensures.small)
+join-requires-clause-size g c =
+    omega (arith, ap (rows_size g.S.Scalar.ring) c.poly.ensures.rows, c.poly.ensures.small)
 
 pub join-requires-clause-other_size : goal.join-requires-clause-other_size
-join-requires-clause-other_size g c = omega (arith, ap (rows_size g.S.Scalar.ring) c.poly-2.ensures.rows, c.poly-2.ensures.small)
+join-requires-clause-other_size g c =
+    omega (arith, ap (rows_size g.S.Scalar.ring) c.poly-2.ensures.rows, c.poly-2.ensures.small)
 
 pub returns : goal.returns
 returns g c =

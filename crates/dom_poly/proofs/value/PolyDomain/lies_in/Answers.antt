@@ -7,10 +7,12 @@ pub included-requires-clause-width : goal.included-requires-clause-width
 included-requires-clause-width g c = c.poly.ensures.width ∙ ap suc c.requires ∙ sym c.poly-2.ensures.width
 
 pub included-requires-clause-size : goal.included-requires-clause-size
-included-requires-clause-size g c = omega (arith, ap (rows_size g.S.Scalar.ring) c.poly.ensures.rows, c.poly.ensures.small)
+included-requires-clause-size g c =
+    omega (arith, ap (rows_size g.S.Scalar.ring) c.poly.ensures.rows, c.poly.ensures.small)
 
 pub included-requires-clause-other_size : goal.included-requires-clause-other_size
-included-requires-clause-other_size g c = omega (arith, ap (rows_size g.S.Scalar.ring) c.poly-2.ensures.rows, c.poly-2.ensures.small)
+included-requires-clause-other_size g c =
+    omega (arith, ap (rows_size g.S.Scalar.ring) c.poly-2.ensures.rows, c.poly-2.ensures.small)
 
 pub returns : goal.returns
 returns g c = included_as g.S.Scalar.ring c.included.result c.args.self.now c.args.other.now c.poly.result.now

@@ -1,4 +1,4 @@
-use Rattle.std.proofs.Common.{◌≡◌, sym, ap, ◌∙◌, subst, refl}
+use Rattle.std.proofs.Common.{◌≡◌, sym, subst, refl}
 use Rattle.cone_domain.specs.Values.{Value}
 use Rattle.cone_domain.specs.Polyhedra.{width_of}
 use Rattle.dom_poly.specs.Views.{list_of}

@@ -1,4 +1,4 @@
-use Rattle.std.proofs.Common.{◌≡◌, ◌+◌, suc, ap, ◌∙◌, arith}
+use Rattle.std.proofs.Common.{◌≡◌, ◌+◌, suc, ◌∙◌, arith}
 use Rattle.dom_poly.proofs.Sound.{whole_is_everything, whole_is_small}
 use Rattle.dom_poly.proofs.value.PolyDomain.top.Goals as goal
 
