@@ -14,7 +14,7 @@ struct Valid {
     text: &'static str,
 }
 
-const FILES: [Valid; 10] = [
+const FILES: [Valid; 12] = [
     Valid {
         words: "reduce",
         text: "kind gens\nsemiring max\nvars x y\n# two points and a ray\npoint [0, -oo]\npoint [3, 1]\nray [0, -7]\n",
@@ -54,6 +54,14 @@ const FILES: [Valid; 10] = [
     Valid {
         words: "op meet",
         text: "kind pair\nsemiring min\nvars x y\npoint [0, 0]\nray [2, oo]\nand\npoint [1, -1]\n",
+    },
+    Valid {
+        words: "trace turns=50",
+        text: "vars i n;\nassume n >= 0 && i <= n;\nwhile i < n { i := i + 1; havoc n; }\nif ? { skip; } else { assert max(i, 3) <= n; }\nstart [0, 2]\nchoices [1, 5]\n",
+    },
+    Valid {
+        words: "trace turns=9",
+        text: "vars x; x := 3; while x > 0 || ? { x := x - 1; } assert x = 0; start [-7] choices []",
     },
 ];
 
