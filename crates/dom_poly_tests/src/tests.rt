@@ -1,4 +1,5 @@
 // Tests by tables.
 mod analyses;
+mod laws;
 mod reading;
 mod rows;
