@@ -1,5 +1,5 @@
 -- The pieces of tokens that are inks, with what stands before each, are the inks.
--- Index: IsInked, inked.
+-- Index: at, IsStep, step, IsInked, inked.
 use Rattle.trop_text.specs.declared.fault.FaultKind.TheVariants.{Syntax, NumberRange}
 use Rattle.std.proofs.Common.{◌≡◌, ◌≤◌, ◌<◌, ◌^◌, ℕ, Bool, true, false, List, [], ◌∷◌, ◌++◌, Ok, Err, cond, refl, sym, ap, subst, ◌∙◌, append_assoc, arith, decimal, nat_le}
 use Rattle.std.specs.Prelude.{◌==◌, ◌||◌, ◌&&◌}
@@ -57,7 +57,7 @@ module _ (L : Limits) (small : L.number < 2 ^ 64) (names : List (List ℕ)) wher
       ink_grows Feed b = (itself b.statements, itself b.atoms)
 
   -- the token t behind b
-  abbrev at : Before → Tok → Counted
+  abbrev pub at : Before → Tok → Counted
   at b t = record { piece = Token t; before = b }
 
   -- so few statements and atoms stand behind the inks
@@ -75,10 +75,10 @@ module _ (L : Limits) (small : L.number < 2 ^ 64) (names : List (List ℕ)) wher
   -- ---- one token
 
   -- the pieces of a token and what is behind it, with the end of a line before it or none
-  record IsStep (b : Before) (t : Tok) (ts : List Tok) (line : ℕ) : Type 0 where
-    gap : List Counted
-    whole : counted b (pieces_from (t ∷ ts) line) ≡ gap ++ at b t ∷ counted (after b t.text) (pieces_from ts t.line)
-    clear : (us : List Counted) → past skipped (gap ++ at b t ∷ us) ≡ at b t ∷ us
+  pub record IsStep (b : Before) (t : Tok) (ts : List Tok) (line : ℕ) : Type 0 where
+    pub gap : List Counted
+    pub whole : counted b (pieces_from (t ∷ ts) line) ≡ gap ++ at b t ∷ counted (after b t.text) (pieces_from ts t.line)
+    pub clear : (us : List Counted) → past skipped (gap ++ at b t ∷ us) ≡ at b t ∷ us
 
   -- the end of a line behind b
   abbrev end_at : Before → ℕ → Counted
@@ -112,7 +112,7 @@ module _ (L : Limits) (small : L.number < 2 ^ 64) (names : List (List ℕ)) wher
   unfolding pieces_from
   ordered_is t ts line = refl
 
-  step : (b : Before) (t : Tok) (ts : List Tok) (line : ℕ) → IsStep b t ts line
+  pub step : (b : Before) (t : Tok) (ts : List Tok) (line : ℕ) → IsStep b t ts line
   step b t ts line = by ((line == 0) || (t.line == line)) refl
     where
       by : (z : Bool) → ((line == 0) || (t.line == line)) ≡ z → IsStep b t ts line

@@ -17,7 +17,7 @@ use Rattle.trop_text.proofs.WrittenTokens.{StopsWord, word_written, digits_writt
 use Rattle.prog_texts.specs.Words.{Before}
 use Rattle.prog_texts.specs.Inks.{Ink, Says, Name, Number, Blank, Feed, name_text, ink_text, inks_text}
 use Rattle.prog_print.proofs.Walks.{Edge, Apart, Wordy, Open, edge_of_word, goes_further, begins_further, may_follow, IsOpening, IsToken, IsSound, Walks, after_ink, last_edge}
-use Rattle.prog_print.proofs.PlainTexts.{name_word, decimal_are_digits}
+use Rattle.prog_print.proofs.PlainTexts.{itself, name_word, decimal_are_digits}
 
 -- what follows goes on with no sign
 abbrev pub StopsSign : List ℕ → Type 0
@@ -166,6 +166,7 @@ module _ (bound : ℕ) (small : bound < 2 ^ 64) (names : List (List ℕ)) where
     pub tokens : List Tok
     pub next : ℕ
     pub place : ℕ
+    pub ordered : line ≤ next
     pub lexed : tokens_past 0 (T is ++ rest) line column ≡ tokens ++ tokens_past 0 rest next place
     pub texts : HaveTexts is tokens
 
@@ -190,13 +191,14 @@ module _ (bound : ℕ) (small : bound < 2 ^ 64) (names : List (List ℕ)) where
   pub lexes : (P : Before → Edge → Type 0) (is : List Ink) (b : Before) (e : Edge) (rest : List ℕ) (line column : ℕ) →
       Walks bound names b e is P → Stops (last_edge bound names e is) rest → IsLexedAs is rest line column
   lexes P [] b e rest line column h s =
-      record { tokens = []; next = line; place = column; lexed = refl; texts = refl }
+      record { tokens = []; next = line; place = column; ordered = itself line; lexed = refl; texts = refl }
   lexes P (Blank ∷ is) b e rest line column h s =
       let k = lexes P is b Apart rest line (column + 1) h.2 s in
       record {
         tokens = k.tokens;
         next = k.next;
         place = k.place;
+        ordered = k.ordered;
         lexed = blank_step (T is ++ rest) line column ∙ k.lexed;
         texts = k.texts;
       }
@@ -206,6 +208,7 @@ module _ (bound : ℕ) (small : bound < 2 ^ 64) (names : List (List ℕ)) where
         tokens = k.tokens;
         next = k.next;
         place = k.place;
+        ordered = let o = k.ordered in omega (arith, o);
         lexed = feed_step (T is ++ rest) line column ∙ k.lexed;
         texts = k.texts;
       }
@@ -218,6 +221,7 @@ module _ (bound : ℕ) (small : bound < 2 ^ 64) (names : List (List ℕ)) where
         tokens = f.token ∷ k.tokens;
         next = k.next;
         place = k.place;
+        ordered = k.ordered;
         lexed = next_lexed w is rest line column f k;
         texts = (f.token, k.tokens, refl, f.is, k.texts);
       }
@@ -230,6 +234,7 @@ module _ (bound : ℕ) (small : bound < 2 ^ 64) (names : List (List ℕ)) where
         tokens = f.token ∷ k.tokens;
         next = k.next;
         place = k.place;
+        ordered = k.ordered;
         lexed = next_lexed w is rest line column f k;
         texts = (f.token, k.tokens, refl, f.is, k.texts);
       }
@@ -245,6 +250,7 @@ module _ (bound : ℕ) (small : bound < 2 ^ 64) (names : List (List ℕ)) where
         tokens = f.token ∷ k.tokens;
         next = k.next;
         place = k.place;
+        ordered = k.ordered;
         lexed = next_lexed w is rest line column f k;
         texts = (f.token, k.tokens, refl, f.is, k.texts);
       }

@@ -98,15 +98,17 @@ module _ (p : Named) (are : AreNames p.names) (within : IsWithin program_limits 
   small : L.number < 2 ^ 64
   small = omega arith
 
-  -- Before these bytes: the first pieces are what was printed, and the pieces of the bytes follow, from some place on.
-  pub record IsAsPrinted (rest : List ℕ) : Type 0 where
+  -- Before these bytes, in this line: the first pieces are what was printed, and the pieces of the bytes follow, from
+  -- some place on. There the last line that has a token is this one.
+  pub record IsAsPrinted (line : ℕ) (rest : List ℕ) : Type 0 where
     pub front : List Counted
     pub end : Before
-    pub line : ℕ
+    pub last : ℕ
     pub next : ℕ
     pub place : ℕ
-    pub whole : program_pieces (printed p ++ rest) ≡
-        front ++ counted end (pieces_from (tokens_past 0 rest next place) line)
+    pub ordered : line ≤ next
+    pub whole : counted nothing_before (pieces_from (tokens_past 0 (printed p ++ rest) line 1) 0) ≡
+        front ++ counted end (pieces_from (tokens_past 0 rest next place) last)
     pub are_inks : AreInks L p.names (program_inks p) front
 
   abbrev Q : Before → Edge → Type 0
@@ -115,12 +117,12 @@ module _ (p : Named) (are : AreNames p.names) (within : IsWithin program_limits 
   walks : Walks L.number p.names nothing_before Apart (program_inks p) Q
   walks = program_walks L.number small p.names are p refl within.coordinates within.numbers within.sides
 
-  pub as_printed : (rest : List ℕ) → IsAsPrinted rest
-  as_printed rest =
+  pub as_printed : (line : ℕ) (rest : List ℕ) → IsAsPrinted line rest
+  as_printed line rest =
       let w = walked L.number p.names Q (program_inks p) nothing_before Apart walks in
       let stops : Stops (last_edge L.number p.names Apart (program_inks p)) rest =
       subst (λ (z : Edge). Stops z rest) (sym w.apart) tt in
-      let l = lexes L.number small p.names Q (program_inks p) nothing_before Apart rest 1 1 walks stops in
+      let l = lexes L.number small p.names Q (program_inks p) nothing_before Apart rest line 1 walks stops in
       let k = inked L small p.names Q (program_inks p) nothing_before Apart l.tokens
       (tokens_past 0 rest l.next l.place) 0 l.texts walks (
         no_more _ _ _ w.statements within.statements,
@@ -130,9 +132,10 @@ module _ (p : Named) (are : AreNames p.names) (within : IsWithin program_limits 
       record {
         front = k.front;
         end = after_inks L.number p.names nothing_before (program_inks p);
-        line = k.next;
+        last = k.next;
         next = l.next;
         place = l.place;
+        ordered = l.ordered;
         whole = ap (λ (ts : List Tok). counted nothing_before (pieces_from ts 0)) l.lexed ∙ k.whole;
         are_inks = k.are;
       }
@@ -172,16 +175,16 @@ module _ (p : Named) (are : AreNames p.names) (within : IsWithin program_limits 
   pub printed_spelled : (rule : AssertRule) → SuitsBlock rule p.body →
       IsWholeProgram L rule (program_pieces (printed p)) p
   printed_spelled rule suits =
-      let k = as_printed [] in
-      let back = counted k.end (ends_from k.line) in
-      let e = ends k.end k.line in
+      let k = as_printed 1 [] in
+      let back = counted k.end (ends_from k.last) in
+      let e = ends k.end k.last in
       record {
         front = k.front;
         back = back;
         value = p;
         whole = ap program_pieces (sym (append-nil (printed p))) ∙ k.whole
-            ∙ ap (λ (ts : List Tok). k.front ++ counted k.end (pieces_from ts k.line)) (no_tokens k.next k.place)
-            ∙ ap (λ (ps : List Piece). k.front ++ counted k.end ps) (end_pieces k.line);
+            ∙ ap (λ (ts : List Tok). k.front ++ counted k.end (pieces_from ts k.last)) (no_tokens k.next k.place)
+            ∙ ap (λ (ps : List Piece). k.front ++ counted k.end ps) (end_pieces k.last);
         first = program_spelled L rule p (printable rule suits) k.front k.are_inks;
         second = Then_all back tt p (a_one back e.token [] tt e.whole refl e.is) (the_empty p [] refl);
       }
