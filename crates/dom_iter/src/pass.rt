@@ -1,5 +1,5 @@
 //! A pass over all points.
-ghost use Rattle.std.specs.Prelude.{◌≡◌, ◌||◌, ◌^◌, ◌≤◌, MatchResult};
+ghost use Rattle.std.specs.Prelude.{◌≡◌, ◌||◌, ◌^◌, ◌<◌, ◌≤◌, MatchResult};
 ghost use Rattle.dom_theory.specs.Passes.{Rises, Settles, Pass};
 ghost use Rattle.dom_iter.specs.Fair.{AreValues, IsFair};
 ghost use Rattle.dom_iter.specs.Steps.{stage, Raises, Settled};
@@ -10,6 +10,20 @@ use crate::step::{rise_point, settle_point};
 use dom_core::{Domain, Spot};
 use prog_graph::Graph;
 use std::alloc::Global;
+
+// Where a pass is in a turn, from 0, of one turn for each point: points come in the order of their numbers, so that a
+// source below the point has its value of this pass already.
+fn spot_in(pass: u64, turns: usize, turn: usize) -> Spot
+    requires turn { turn < turns }
+    requires few { turns ≤ 65536 }
+    ensures { result ≡ record { pass = pass; point = turn } }
+{
+    prove!(turn < turns);
+    Spot {
+        pass,
+        point: turn as u32,
+    }
+}
 
 fn either(a: bool, b: bool) -> bool
     ensures { result ≡ (a || b) }
@@ -34,10 +48,7 @@ pub(crate) fn rise<D: Domain>(
     let count = graph.points().len();
     let mut changed = false;
     for q in 0..count {
-        let spot = Spot {
-            pass,
-            point: q as u32,
-        };
+        let spot = spot_in(pass, count, q);
         let moved = rise_point(alloc, graph, values, changes, delay, spot)?;
         changed = either(changed, moved);
     }
@@ -57,10 +68,7 @@ pub(crate) fn settle<D: Domain>(
 {
     let count = graph.points().len();
     for q in 0..count {
-        let spot = Spot {
-            pass,
-            point: q as u32,
-        };
+        let spot = spot_in(pass, count, q);
         settle_point(alloc, graph, values, spot)?;
     }
     Ok(())

@@ -92,6 +92,14 @@ pub(crate) fn rise_point<D: Domain>(
     }
 }
 
+// In a pass of the narrowing a point takes what reaches it, whatever it had.
+fn take<D: Domain>(kept: &mut D, sum: D)
+    requires { D.relations.vars kept.old ≡ D.relations.vars sum }
+    ensures { kept.new ≡ sum }
+{
+    *kept = sum;
+}
+
 /// A point in a pass of the narrowing.
 pub(crate) fn settle_point<D: Domain>(
     alloc: Global,
@@ -105,6 +113,6 @@ pub(crate) fn settle_point<D: Domain>(
     ensures { (counts : _) → MatchResult result (λ _. Moves (Settles D.relations graph.now spot.pass (stage values.old.items counts) spot.point) (stage values.old.items counts) (stage values.new.items counts) spot.point false) (StopsAt (Settles D.relations graph.now spot.pass (stage values.old.items counts) spot.point)) }
 {
     let sum = sum_at(alloc, graph, values.as_slice(), spot)?;
-    values[spot.point as usize] = sum;
+    take(&mut values[spot.point as usize], sum);
     Ok(())
 }

@@ -15,7 +15,7 @@ returns-in_err-moved g c =
     let p = err_from_is_err_and c.from_residual.result c.from_residual.ensures.1 in
     let inside : c.loop-q.q < length G.points = omega (arith, ap length c.points.ensures.value, c.len-count.ensures) in
     rw (p.1, p.2) (Points-stops (Rises D G c.args.delay c.args.pass) G c.loop-q.q (stage c.loop-q.values.items c.loop-q.changes.items) (stage c.args.values.now.items c.args.changes.now.items) c.in_err-moved.field-0.0
-    inside c.loop-q.invariant.reads c.in_err-moved.ensures)
+    inside c.loop-q.invariant.reads (rw c.spot_in-spot.ensures at c.in_err-moved.ensures))
 
 pub loop-q-preserved : goal.loop-q-preserved
 loop-q-preserved g c =
@@ -25,7 +25,7 @@ loop-q-preserved g c =
     let S = stage c.loop-q.values.items c.loop-q.changes.items in
     let T = stage c.rise_point.new.values.items c.rise_point.new.changes.items in
     let Step = Rises D G c.args.delay c.args.pass in
-    let m = c.in_ok-moved.ensures in
+    let m = rw c.spot_in-spot.ensures at c.in_ok-moved.ensures in
     let inside : q < length G.points = omega (arith, ap length c.points.ensures.value, c.len-count.ensures) in
     let at = Rises-fair D G c.args.delay c.args.pass S q m.held g.met.D.Domain.laws c.points.ensures.keeps c.loop-q.invariant.fair inside m.gives in
     let inside_changes : q < length S.changes = let e = c.loop-q.invariant.fair.counts in omega arith in

@@ -15,6 +15,6 @@ pub returns : goal.returns
 returns g c = λ counts. record {
   held = record { value = c.in_ok-sum.sum; changes = get_or counts c.args.spot.point 0 };
   gives = goes c.in_ok-sum.sum (rw c.as_slice.ensures.value at c.in_ok-sum.ensures.comes) refl;
-  is = rw (set-get_or counts c.args.spot.point 0) refl;
+  is = rw (c.take.ensures, set-get_or counts c.args.spot.point 0) refl;
   counts = refl;
 }
