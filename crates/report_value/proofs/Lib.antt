@@ -1,1 +1,2 @@
--- What is proved of reports.
+pub mod Sound
+pub mod Within
