@@ -1,0 +1,5 @@
+pub mod AssertNumbers
+pub mod Parts
+pub mod Loops
+pub mod EndLine
+pub mod ReadBack
