@@ -1,7 +1,7 @@
 -- The line of `end` behind a printed program, wherever it begins.
 -- Index: IsEndToken, end_token, next_line.
-use Rattle.std.proofs.Common.{◌≡◌, ◌≢◌, ◌+◌, ℕ, List, [], ◌∷◌, ◌++◌, map, codes, length, refl, sym, ap, subst, ◌∙◌}
-use Rattle.trop_text.specs.Tokens.{Tok, tokens_past, tokens_at}
+use Rattle.std.proofs.Common.{◌≡◌, ◌≢◌, ◌+◌, ℕ, List, [], ◌∷◌, ◌++◌, map, codes, refl, sym, ap, subst, ◌∙◌}
+use Rattle.trop_text.specs.Tokens.{Tok, tokens_past}
 use Rattle.trop_text.specs.Pieces.{Piece, Token, LineEnd, pieces_from}
 use Rattle.trop_text.specs.declared.token.TokenKind.TheVariants.{Word}
 use Rattle.trop_text.proofs.Written.{tok, AreOn, IsOne, IsLexed}

@@ -9,7 +9,7 @@ use Rattle.prog_texts.specs.Printed.{printed}
 use Rattle.cone_reports.specs.Reports.{Part}
 use Rattle.report_texts.specs.Modes.{Mode, InMax, InMin, Element, kind_of, numbering}
 use Rattle.report_texts.specs.Lines.{Line, Row, Inv, Last, part_lines, blocks_lines, judged_line, lines_of}
-use Rattle.report_texts.specs.Reports.{ReportText, assert_numbers}
+use Rattle.report_texts.specs.Reports.{assert_numbers}
 use Rattle.report_texts.specs.Printed.{row_text, label_text, verdict_text, line_text, lines_text, blocks_of, judged_of, body_of, printed_head, printed_report}
 use Rattle.report_value.specs.Texts.{in_mode}
 use Rattle.report_value.specs.Views.{ReportOver}

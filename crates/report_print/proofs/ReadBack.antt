@@ -1,7 +1,6 @@
 -- What is printed of a report is read back.
 -- Index: written_program, printed_answer, printed_spelled, text_spells.
-use Rattle.std.proofs.Common.{◌≡◌, ◌≢◌, ◌≤◌, ◌<◌, ◌+◌, ◌^◌, ℕ, true, List, [], ◌∷◌, ◌++◌, map, codes, length, Result, Ok, Err, IfOk, refl, sym, ap, subst, ◌∙◌, append_assoc, arith}
-use Rattle.std.specs.Str.{bytes_eq}
+use Rattle.std.proofs.Common.{◌≡◌, ◌≢◌, ◌<◌, ◌+◌, ◌^◌, ℕ, true, List, [], ◌∷◌, ◌++◌, codes, length, Result, Ok, Err, IfOk, refl, sym, ap, subst, ◌∙◌, append_assoc, arith}
 use Rattle.std.proofs.lemmas.List.{map-append}
 use Rattle.std.proofs.lemmas.Slice.Eq.{bytes_eq-Decides}
 use Rattle.trop_text.specs.Names.{AreNames}
@@ -9,12 +8,11 @@ use Rattle.trop_text.specs.Tokens.{Tok, tokens_past, tokens_at}
 use Rattle.trop_text.specs.Pieces.{Piece, LineEnd, pieces_from, pieces_of}
 use Rattle.trop_text.proofs.WrittenLines.{AreLines}
 use Rattle.prog_theory.specs.Limits.{Limits, program_limits}
-use Rattle.prog_theory.specs.Named.{Named, nameless}
-use Rattle.prog_theory.specs.Within.{IsWithin}
+use Rattle.prog_theory.specs.Named.{Named}
 use Rattle.prog_theory.proofs.ControlGraphs.{graph_of_program}
 use Rattle.prog_tree.specs.Programs.{IsProgram}
 use Rattle.prog_texts.specs.AssertRule.{AssertRule}
-use Rattle.prog_texts.specs.Words.{Before, Counted, nothing_before, says, text, counted}
+use Rattle.prog_texts.specs.Words.{Counted, nothing_before, says, text, counted}
 use Rattle.prog_texts.specs.Judges.{said}
 use Rattle.prog_texts.specs.Printed.{printed}
 use Rattle.prog_texts.specs.Suits.{SuitsBlock}
@@ -32,7 +30,7 @@ use Rattle.report_texts.specs.Printed.{printed_report}
 use Rattle.report_texts.proofs.ProgramLaws.{plain_counted, front_counted}
 use Rattle.report_texts.proofs.TextLaws.{report_found}
 use Rattle.report_texts.proofs.WrittenReports.{IsWrittenProgram, report_read_back}
-use Rattle.report_print.proofs.EndLine.{IsEndToken, end_token, next_line}
+use Rattle.report_print.proofs.EndLine.{end_token, next_line}
 
 -- ---- a printed program with the line of `end`
 

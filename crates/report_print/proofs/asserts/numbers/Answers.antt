@@ -1,4 +1,4 @@
-use Rattle.std.proofs.Common.{◌≡◌, ◌++◌, ℕ, List, ap, ap₂, sym, ◌∙◌}
+use Rattle.std.proofs.Common.{◌++◌, ℕ, List, ap, ap₂, sym, ◌∙◌}
 use Rattle.report_print.specs.AssertNumbers.{numbers_bl}
 use Rattle.report_print.proofs.AssertNumbers.{numbers_are}
 use Rattle.report_print.proofs.asserts.numbers.Goals as goal

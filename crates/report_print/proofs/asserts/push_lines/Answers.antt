@@ -1,4 +1,4 @@
-use Rattle.std.proofs.Common.{◌≡◌, ◌+◌, ◌<◌, length, arith}
+use Rattle.std.proofs.Common.{arith}
 use Rattle.report_print.proofs.Loops.{drop_next, one_verdict}
 use Rattle.report_print.proofs.asserts.push_lines.Goals as goal
 

@@ -1,4 +1,4 @@
-use Rattle.std.proofs.Common.{◌≡◌, ◌++◌, OnOk, ap, subst}
+use Rattle.std.proofs.Common.{◌≡◌, OnOk, ap, subst}
 use Rattle.prog_graph.specs.Views.{point_of}
 use Rattle.report_print.specs.Texts.{part_text, point_line}
 use Rattle.report_print.proofs.Loops.{same_item, found, both_behind}

@@ -1,6 +1,6 @@
-use Rattle.std.proofs.Common.{◌≡◌, ◌+◌, ◌<◌, ◌++◌, length, drop, refl, ap, sym, ◌∙◌, arith}
+use Rattle.std.proofs.Common.{◌+◌, refl, arith}
 use Rattle.prog_graph.specs.Views.{point_of}
-use Rattle.report_value.specs.Views.{part_of, parts_of}
+use Rattle.report_value.specs.Views.{part_of}
 use Rattle.report_print.proofs.Loops.{item_at, drop_mapped, one_block}
 use Rattle.report_print.proofs.blocks.push_parts.Goals as goal
 

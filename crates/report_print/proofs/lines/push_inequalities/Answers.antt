@@ -1,4 +1,4 @@
-use Rattle.std.proofs.Common.{◌≡◌, ◌≤◌, ◌+◌, ◌∷◌, ◌++◌, length, drop, ap, subst, arith}
+use Rattle.std.proofs.Common.{◌≡◌, ◌≤◌, ◌+◌, ◌∷◌, length, drop, ap, subst, arith}
 use Rattle.trop_spelling.proofs.Printing.{two_more, drop_item, drop_all, all_done}
 use Rattle.report_print.specs.Texts.{inequalities_text}
 use Rattle.report_print.proofs.lines.push_inequalities.Goals as goal
