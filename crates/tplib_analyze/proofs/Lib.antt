@@ -1,0 +1,11 @@
+pub mod Zips
+pub mod Claims
+pub mod Added
+pub mod Suits
+pub mod Lengths
+pub mod Parts
+pub mod Passes
+pub mod Refusals
+pub mod Reports
+pub mod Family
+pub mod Texts

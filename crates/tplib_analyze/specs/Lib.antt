@@ -1,0 +1,11 @@
+pub mod Modes
+pub mod Views
+pub mod Family
+pub mod Stops
+pub mod Defined
+pub mod Visits
+pub mod Analyze
+pub mod Stopped
+pub mod Parts
+pub mod Claims
+pub mod Made
