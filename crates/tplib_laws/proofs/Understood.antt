@@ -25,7 +25,7 @@ int_alone Join h = absurd (omega (arith, ap first_byte h.spelled))
 int_alone Meet h = absurd (omega (arith, ap first_byte h.spelled))
 int_alone (Forget var) h = absurd (omega (arith, ap first_byte h.spelled.1))
 int_alone (Trace turns) h = absurd (omega (arith, ap first_byte h.spelled.1))
-int_alone (Analyze mode delay narrow) h = absurd h.built
+int_alone (Analyze mode delay narrow) h = absurd (omega (arith, ap first_byte h.spelled.6))
 int_alone Check h = absurd h.built
 int_alone (Sample seed vars rows) h = absurd (omega (arith, ap first_byte h.spelled.4))
 
@@ -41,7 +41,7 @@ ext_alone Join h = absurd (omega (arith, ap first_byte h.spelled))
 ext_alone Meet h = absurd (omega (arith, ap first_byte h.spelled))
 ext_alone (Forget var) h = absurd (omega (arith, ap first_byte h.spelled.1))
 ext_alone (Trace turns) h = absurd (omega (arith, ap first_byte h.spelled.1))
-ext_alone (Analyze mode delay narrow) h = absurd h.built
+ext_alone (Analyze mode delay narrow) h = absurd (omega (arith, ap first_byte h.spelled.6))
 ext_alone Check h = absurd h.built
 ext_alone (Sample seed vars rows) h = absurd (omega (arith, ap first_byte h.spelled.4))
 
