@@ -1,5 +1,5 @@
 -- The verdicts on a statement, from those on its parts.
-use Rattle.std.proofs.Common.{◌≡◌, ◌+◌, ◌∙◌, ℕ, List, [], ◌++◌, Result, Ok, Err, refl, sym, ap, subst}
+use Rattle.std.proofs.Common.{◌≡◌, ◌+◌, ◌∙◌, ℕ, List, [], ◌++◌, Result, Ok, Err, sym, ap, subst}
 use Rattle.std.specs.Prelude.{OnOk}
 use Rattle.prog_theory.specs.Conditions.{Cond}
 use Rattle.prog_theory.specs.Statements.{Stmt, If, While, Block}
@@ -27,7 +27,8 @@ module _ {B : Type 0} (P : Claimed → B → Type 0) where
       (subst (λ m. AreAdded P (claims_bl (point + 1 + m) a) old middle) inside h)
       (subst (λ m. OnOk r (AreAdded P (claims_bl m b) middle new)) at k))
 
-  pub while_added : {X E : Type 0} (r : Result X E) (st : Stmt) (c : Cond) (a : Block) (point n : ℕ) (old new : List B) →
+  pub while_added : {X E : Type 0} (r : Result X E) (st : Stmt) (c : Cond) (a : Block) (point n : ℕ) (old new : List
+      B) →
       st ≡ While c a → n ≡ inner (test c) → OnOk r (AreAdded P (claims_bl (point + 1 + n) a) old new) →
       OnOk r (AreAdded P (claims_st point st) old new)
   while_added r st c a point n old new is inside h =

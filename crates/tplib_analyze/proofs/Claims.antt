@@ -1,11 +1,11 @@
 -- The claims of a program by recursion on its statements are those of its asserts, in the same order; how many points
 -- the statements have; and one turn of the loop over the statements of a block.
-use Rattle.std.proofs.Common.{◌≡◌, ◌<◌, ◌≤◌, ◌+◌, ◌∙◌, ℕ, zero, suc, List, [], ◌∷◌, ◌++◌, length, drop, get_or, map, replicate, refl, sym, ap, ap₂, subst, append-nil, arith}
+use Rattle.std.proofs.Common.{◌≡◌, ◌<◌, ◌≤◌, ◌+◌, ◌∙◌, ℕ, zero, suc, List, [], ◌∷◌, ◌++◌, length, drop, get_or, map, replicate, refl, sym, ap, ap₂, subst, arith}
 use Rattle.std.proofs.lemmas.List.{length-append, length-replicate}
 use Rattle.prog_theory.specs.Statements.{Claim, Stmt, Set, Havoc, Assume, Assert, If, While, Skip, Block, Empty, Then, Program}
 use Rattle.prog_theory.specs.Numbering.{count, counts}
 use Rattle.prog_theory.specs.Tests.{test, inner}
-use Rattle.prog_theory.specs.Places.{Place, own_inner, width, widths, entry, places, places_of}
+use Rattle.prog_theory.specs.Places.{Place, width, widths, entry, places, places_of}
 use Rattle.prog_theory.specs.Graph.{Inner, Exit, points}
 use Rattle.prog_theory.specs.Each.{EachClaim, EachClaims}
 use Rattle.prog_tree.specs.declared.block.Stmt.{Stmt as Statement}
@@ -23,7 +23,8 @@ claimed a = record { point = a.point; claim = a.claim }
 abbrev claims_in : List Place → List Claimed
 claims_in ls = map claimed (asserts_of ls)
 
-own-append : (p k : ℕ) (st : Stmt) (ls ms whole : List Assertion) → map claimed whole ≡ map claimed ls ++ map claimed ms →
+own-append : (p k : ℕ) (st : Stmt) (ls ms whole : List Assertion) → map claimed whole ≡ map claimed ls ++ map claimed
+    ms →
     map claimed (own_asserts p k st ++ whole) ≡ map claimed (own_asserts p k st ++ ls) ++ map claimed ms
 own-append p k (Assert c) ls ms whole h = ap (λ z. record { point = p; claim = c } ∷ z) h
 own-append p k (Set x t) ls ms whole h = h
@@ -126,7 +127,8 @@ pub IsLeft-more : {B : Type 0} (P : Claimed → B → Type 0) (at next point : �
 IsLeft-more P at next point left rest st now new old block e f h k = record {
   adds = λ last m. h.adds last
       (subst (λ z. AreAdded P (claims_bl at (block_of z)) now last) (sym e)
-      (AreAdded-append P (claims_st at (stmt_of st)) (claims_bl (at + width (stmt_of st)) (block_of rest)) now new last k
+      (AreAdded-append P (claims_st at (stmt_of st)) (claims_bl (at + width (stmt_of st)) (block_of rest)) now new
+      last k
       (subst (λ z. AreAdded P (claims_bl z (block_of rest)) new last) f m)));
 }
 
@@ -151,4 +153,5 @@ pub IsLeft-all : {B : Type 0} (P : Claimed → B → Type 0) (at point i : ℕ) 
     (block : Block) → length xs ≤ i → IsLeft P at (block_of (drop i xs)) now point block old →
     AreAdded P (claims_bl point block) old now
 IsLeft-all P at point i xs now old block l h =
-    h.adds now (subst (λ z. AreAdded P (claims_bl at (block_of z)) now now) (sym (drop_past xs i l)) (AreAdded-nil P now))
+    h.adds now (subst (λ z. AreAdded P (claims_bl at (block_of z)) now now) (sym (drop_past xs i l)) (AreAdded-nil P
+    now))

@@ -40,38 +40,40 @@ module _ {V : Type 0} (R : Semiring V) (N : Numbering V) (reversed : Bool) (dela
 module _ {V : Type 0} {R : Semiring V} {N : Numbering V} {reversed : Bool} (laws : SemiringLaws R)
     (numbers : NumericLaws R N reversed) (p : Named) (kept : IsWithin program_limits p)
     (suits : EachClaims (SuitsWords reversed) p.body) (delay narrow : ℕ) (end : End (Value V))
-    (gives : FamilyOf R N reversed delay narrow p (Gives end)) (values : List (Value V)) (same : values ≡ end.values) where
-  pub few_values : length values ≤ 65536
-  few_values =
-      let e = ap length same in
-      let l = length-values laws numbers p kept suits delay narrow end gives in
-      let m = (graph laws numbers p kept suits delay narrow end gives).points in
-      omega (arith, e, l, m)
+    (gives : FamilyOf R N reversed delay narrow p (Gives end)) (values : List (Value V)) (same : values ≡ end.values)
+  where
+    pub few_values : length values ≤ 65536
+    few_values =
+        let e = ap length same in
+        let l = length-values laws numbers p kept suits delay narrow end gives in
+        let m = (graph laws numbers p kept suits delay narrow end gives).points in
+        omega (arith, e, l, m)
 
-  pub points_inside : (body : Block) → body ≡ p.body → widths body ≤ length values
-  points_inside body is =
-      let e = ap length same in
-      let l = length-values laws numbers p kept suits delay narrow end gives in
-      let w = widths_inside (nameless p) in
-      let b = ap widths is in
-      omega (arith, e, l, w, b)
+    pub points_inside : (body : Block) → body ≡ p.body → widths body ≤ length values
+    points_inside body is =
+        let e = ap length same in
+        let l = length-values laws numbers p kept suits delay narrow end gives in
+        let w = widths_inside (nameless p) in
+        let b = ap widths is in
+        omega (arith, e, l, w, b)
 
-  pub values_on : (vars : ℕ) → vars ≡ length p.names → (q : ℕ) → q < length values →
-      (get_or values q (nothing vars)).vars ≡ vars
-  values_on vars is q l =
-      subst (λ n. (get_or values q (nothing n)).vars ≡ n) (sym is)
-      (subst (λ (xs : List (Value V)). (get_or xs q (nothing (length p.names))).vars ≡ length p.names) (sym same)
-      (value_on laws numbers p kept suits delay narrow end gives q).1)
+    pub values_on : (vars : ℕ) → vars ≡ length p.names → (q : ℕ) → q < length values →
+        (get_or values q (nothing vars)).vars ≡ vars
+    values_on vars is q l =
+        subst (λ n. (get_or values q (nothing n)).vars ≡ n) (sym is)
+        (subst (λ (xs : List (Value V)). (get_or xs q (nothing (length p.names))).vars ≡ length p.names) (sym same)
+        (value_on laws numbers p kept suits delay narrow end gives q).1)
 
-  pub body_judgeable : (vars : ℕ) (body : Block) → vars ≡ length p.names → body ≡ p.body →
-      EachClaims (IsJudgeable reversed vars) body
-  body_judgeable vars body is here =
-      subst (λ n. EachClaims (IsJudgeable reversed n) body) (sym is)
-      (subst (λ b. EachClaims (IsJudgeable reversed (length p.names)) b) (sym here)
-      (claims_judgeable laws numbers p kept suits delay narrow end gives))
+    pub body_judgeable : (vars : ℕ) (body : Block) → vars ≡ length p.names → body ≡ p.body →
+        EachClaims (IsJudgeable reversed vars) body
+    body_judgeable vars body is here =
+        subst (λ n. EachClaims (IsJudgeable reversed n) body) (sym is)
+        (subst (λ b. EachClaims (IsJudgeable reversed (length p.names)) b) (sym here)
+        (claims_judgeable laws numbers p kept suits delay narrow end gives))
 
 -- verdicts on the statements of the program, by its values
-pub judged_as : {V : Type 0} (R : Semiring V) (N : Numbering V) (reversed : Bool) (p : Named) (values others : List (Value V)) →
+pub judged_as : {V : Type 0} (R : Semiring V) (N : Numbering V) (reversed : Bool) (p : Named) (values others : List
+    (Value V)) →
     others ≡ values → (vars : ℕ) → vars ≡ length p.names → (body : Block) → body ≡ p.body → (verdicts : List Bool) →
     AllZip (IsVerdictOn R N reversed (λ q. get_or others q (nothing vars))) (claims_bl 0 body) verdicts →
     AllZip (IsVerdictOn R N reversed (value_in p values)) (claims_bl 0 p.body) verdicts
@@ -79,4 +81,5 @@ judged_as {V} R N reversed p values others same vars is body here verdicts h =
     subst (λ (xs : List (Value V)). AllZip (IsVerdictOn R N reversed (λ q. get_or xs q (nothing (length p.names))))
     (claims_bl 0 p.body) verdicts) same
     (subst (λ n. AllZip (IsVerdictOn R N reversed (λ q. get_or others q (nothing n))) (claims_bl 0 p.body) verdicts) is
-    (subst (λ b. AllZip (IsVerdictOn R N reversed (λ q. get_or others q (nothing vars))) (claims_bl 0 b) verdicts) here h))
+    (subst (λ b. AllZip (IsVerdictOn R N reversed (λ q. get_or others q (nothing vars))) (claims_bl 0 b) verdicts)
+    here h))

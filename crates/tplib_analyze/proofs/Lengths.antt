@@ -1,5 +1,5 @@
 -- What an analysis gives has a value for each point.
-use Rattle.std.proofs.Common.{◌≡◌, ◌+◌, ◌∙◌, ℕ, zero, suc, List, length, refl, sym, subst, ap}
+use Rattle.std.proofs.Common.{◌≡◌, ◌+◌, ◌∙◌, ℕ, zero, suc, length, refl, sym, subst, ap}
 use Rattle.std.proofs.lemmas.List.{length-replicate}
 use Rattle.prog_theory.specs.ControlGraphs.{ControlGraph}
 use Rattle.dom_theory.specs.Relations.{Relations}
@@ -29,7 +29,8 @@ module _ {V : Type 0} (D : Relations V) (G : ControlGraph) where
   pub length-end : (delay narrow : ℕ) (E : End V) → Analysis D G delay narrow (Gives E) →
       length E.values ≡ length G.points
   length-end delay narrow E h =
-      let t = Then-gives (Ascent D G delay 1 (at_first D G)) (λ risen. Then (Narrows D G narrow (risen.passes + 1) risen.stage)
+      let t = Then-gives (Ascent D G delay 1 (at_first D G)) (λ risen. Then (Narrows D G narrow (risen.passes + 1)
+      risen.stage)
       (λ S. Is (record { values = S.values; passes = risen.passes }))) E h in
       let u = Then-gives (Narrows D G narrow (t.0.passes + 1) t.0.stage)
       (λ S. Is (record { values = S.values; passes = t.0.passes })) E t.2 in

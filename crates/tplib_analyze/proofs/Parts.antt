@@ -19,7 +19,7 @@ use Rattle.trop_duality.proofs.Bipolar.{IsIn-external}
 use Rattle.cone_domain.specs.Values.{Value, coordinates}
 use Rattle.dom_poly.proofs.Kept.{external_small}
 use Rattle.trop_poly.specs.Cones.{Cone, InCone}
-use Rattle.report_texts.specs.Lines.{has_finite, IsPart, Each}
+use Rattle.report_texts.specs.Lines.{has_finite, Each}
 use Rattle.report_texts.proofs.NormalRows.{finite_normal}
 use Rattle.report_value.specs.declared.parts.PointPart.{PointPart}
 use Rattle.report_value.specs.Views.{part_of}
@@ -76,22 +76,26 @@ module _ {V Store : Type 0} {R : Semiring V} (v : Value V) (p : PointPart V Stor
           printed_few = few;
           printed_wide = IsIn-external laws c (IsCombination R c v.rows)
               (λ x h. IsCombination-length laws c v.rows x kept.value.wide h) p.invs.inequalities here;
-          printed_small = let s = external_small (system_size R p.invs.inequalities) (rows_size R v.rows) n kept.small most
+          printed_small = let s = external_small (system_size R p.invs.inequalities) (rows_size R v.rows) n kept.small
+              most
               small in omega (arith, s);
           unstopped = subst (λ m. (i k : ℕ) → IsPolarStop R m v.rows i k → ⊥) width unstopped;
         };
       }
 
 -- a point with rows, by its cone in the code
-pub made_external : {V Store : Type 0} {R : Semiring V} → SemiringLaws R → (v : Value V) (p : PointPart V Store) (cone : Cone V) →
+pub made_external : {V Store : Type 0} {R : Semiring V} → SemiringLaws R → (v : Value V) (p : PointPart V Store) (cone
+    : Cone V) →
     IsKeptValue R v → cone.n ≡ coordinates v → cone.rows ≡ v.rows → (cone.rows ≡ [] → ⊥) → cone.n ≤ 64 →
     p.rows.n ≡ cone.n → p.rows.rows ≡ cone.rows → p.invs.n ≡ cone.n →
     IsExternal R cone.n (InCone R cone) p.invs.inequalities → length p.invs.inequalities ≤ row_limit →
     system_size R p.invs.inequalities ≤ 4 * rows_size R cone.rows * (cone.n - 1) →
     ((i k : ℕ) → IsPolarStop R cone.n cone.rows i k → ⊥) → IsPointMade R v p
-made_external {V} {Store} {R} laws v p cone kept width same some most rows_width rows_are invs_width external few small free =
+made_external {V} {Store} {R} laws v p cone kept width same some most rows_width rows_are invs_width external few
+    small free =
     made_listed v p kept cone.n width rows_width (rows_are ∙ same) invs_width laws (λ e. some (same ∙ e)) most
-    (subst (λ (g : List (List V)). IsExternal R cone.n (IsCombination R cone.n g) p.invs.inequalities) same external) few
+    (subst (λ (g : List (List V)). IsExternal R cone.n (IsCombination R cone.n g) p.invs.inequalities) same external)
+    few
     (subst (λ (g : List (List V)). system_size R p.invs.inequalities ≤ 4 * rows_size R g * (cone.n - 1)) same small)
     (subst (λ (g : List (List V)). (i k : ℕ) → IsPolarStop R cone.n g i k → ⊥) same free)
 
@@ -146,7 +150,8 @@ module _ {V Store : Type 0} (R : Semiring V) (values : List (Value V)) (made : L
   none_before none o below j l stop =
       let t = length-take q values in
       let h = AllZip-some (IsPointMade R) (take q values) made o none before (omega (arith, t)) in
-      h.1.made.unstopped j l (subst (λ (w : Value V). IsListStop R w j l) (sym (get_or-take q values o none below)) stop)
+      h.1.made.unstopped j l (subst (λ (w : Value V). IsListStop R w j l) (sym (get_or-take q values o none below))
+      stop)
 
   -- the list of a point stops, and those of the points before do not
   pub parts_stopped : (v : Value V) → v ≡ get_or values q v → (refusal : Refusal) → IsPartRefusal R v q refusal →

@@ -23,7 +23,7 @@ use Rattle.cone_domain.specs.Polyhedra.{nothing}
 use Rattle.tplib_reply.specs.declared.stop.Stop.TheVariants as stops
 use Rattle.tplib_reply.specs.declared.refusal.Refusal.{Refusal}
 use Rattle.tplib_reply.specs.declared.refusal.Refusal.TheVariants as refusals
-use Rattle.tplib_analyze.specs.Views.{part_of, place_of}
+use Rattle.tplib_analyze.specs.Views.{part_of}
 use Rattle.tplib_analyze.specs.Stopped.{part_named, refusal_of, list_refusal}
 use Rattle.tplib_analyze.specs.Family.{FamilyOf}
 use Rattle.tplib_analyze.specs.Parts.{IsPartRefusal, IsPartsRefusal}
@@ -45,10 +45,18 @@ module _ {V : Type 0} (R : Semiring V) (N : Numbering V) (reversed : Bool) (dela
   pub analysis_refused : (e : IterErr) → StopsAt (FamilyOf R N reversed delay narrow p) e →
       IsReportRefusal R N reversed delay narrow p (refusal_of e)
   analysis_refused (iteration.Limit place) h =
-      subst (λ part. FamilyOf R N reversed delay narrow p (Stops (record { cause = OverLimit; place = place_with place part })))
+      subst (λ part. FamilyOf R N reversed delay narrow p (Stops (record {
+        cause = OverLimit;
+        place = place_with place
+            part;
+      })))
       (part_same place.part) h
   analysis_refused (iteration.Range place) h =
-      subst (λ part. FamilyOf R N reversed delay narrow p (Stops (record { cause = OutOfRange; place = place_with place part })))
+      subst (λ part. FamilyOf R N reversed delay narrow p (Stops (record {
+        cause = OutOfRange;
+        place = place_with
+            place part;
+      })))
       (part_same place.part) h
   analysis_refused iteration.NoMemory h = tt
 
@@ -76,7 +84,8 @@ module _ {V : Type 0} (R : Semiring V) (N : Numbering V) (reversed : Bool) (dela
 
 -- the external list of the value of a point stops
 pub list_refused : {V : Type 0} (R : Semiring V) (v : Value V) (n : ℕ) (rows : List (List V)) → n ≡ coordinates v →
-    rows ≡ v.rows → (e : PolyErr) (point : ℕ) → IsExternalRefusal R n rows e → IsPartRefusal R v point (list_refusal e point)
+    rows ≡ v.rows → (e : PolyErr) (point : ℕ) → IsExternalRefusal R n rows e → IsPartRefusal R v point (list_refusal e
+    point)
 list_refused R v n rows width same (cones.Rows k) point h = absurd h
 list_refused R v n rows width same (cones.Polar i k) point h = (
   refl,

@@ -43,14 +43,14 @@ use Rattle.report_texts.specs.Limits.{greatest_entry}
 use Rattle.report_texts.specs.Reports.{assert_numbers}
 use Rattle.report_value.specs.declared.parts.PointPart.{PointPart}
 use Rattle.report_value.specs.Views.{part_of, parts_of, report_of}
-use Rattle.report_value.specs.Kept.{IsPartKept, IsPointKept, IsKept}
+use Rattle.report_value.specs.Kept.{IsPartKept, IsPointKept}
 use Rattle.tplib_reply.specs.Meaning.{Cause, OverLimit, OutOfRange}
 use Rattle.tplib_reply.specs.declared.stop.Stop.{Stop}
 use Rattle.tplib_reply.specs.declared.stop.Stop.TheVariants.{Rows, Polar, Lean, At, PointPolar}
 use Rattle.tplib_analyze.specs.Views.{cause_of, place_of}
 use Rattle.tplib_analyze.specs.Family.{FamilyOf, value_in}
 use Rattle.tplib_analyze.specs.Stops.{IsListStop, IsStop}
-use Rattle.tplib_analyze.specs.Defined.{IsPartFor, IsPrintedFor, IsJudgedBy, IsDefined}
+use Rattle.tplib_analyze.specs.Defined.{IsPartFor, IsPrintedFor, IsJudgedBy}
 use Rattle.tplib_analyze.specs.Visits.{ArePrintedTrue, AreProvedTrue}
 use Rattle.tplib_analyze.specs.Parts.{IsPartMade, IsPointMade}
 use Rattle.tplib_analyze.specs.Claims.{Claimed, claims_bl, IsJudgeable, IsVerdictOn}
@@ -105,8 +105,10 @@ module _ {V : Type 0} {R : Semiring V} {N : Numbering V} {reversed : Bool} (laws
 
     rows_are : (q : ℕ) → (part_at report q).rows ≡ (value q).rows
     rows_are q = ⊎_elim (λ l. (part_made q l).rows_are)
-        (λ l. ap (λ (x : Part V). x.rows) (get_or_past (parts_of parts) q no_part (let e = length-report in omega (arith, l, e)))
-        ∙ sym (ap (λ (v : Value V). v.rows) (get_or_past end.values q (nothing vars) l))) (cases_lt q (length end.values))
+        (λ l. ap (λ (x : Part V). x.rows) (get_or_past (parts_of parts) q no_part (let e = length-report in omega
+        (arith, l, e)))
+        ∙ sym (ap (λ (v : Value V). v.rows) (get_or_past end.values q (nothing vars) l))) (cases_lt q (length
+        end.values))
 
     -- what is said of the value of a point, said of the report
     at_point : (P : ℕ → List (List V) → Type 0) (q : ℕ) → P (suc (value q).vars) (value q).rows →
@@ -132,7 +134,8 @@ module _ {V : Type 0} {R : Semiring V} {N : Numbering V} {reversed : Bool} (laws
         (λ l. at_point (Valid (part_at report q).printed) q
         (printed_valid (value q) (part_at report q) (value_on q) (part_made q l).printed))
         (λ l. none_valid (part_at report q).printed (cone_at R report q)
-        (ap (λ (x : Part V). x.printed) (get_or_past (parts_of parts) q no_part (let e = length-report in omega (arith, l, e)))))
+        (ap (λ (x : Part V). x.printed) (get_or_past (parts_of parts) q no_part (let e = length-report in omega
+        (arith, l, e)))))
         (cases_lt q (length end.values))
 
     by_asserts : AllZip (IsJudgedBy R N reversed value) (asserts (nameless p)) verdicts
@@ -141,7 +144,8 @@ module _ {V : Type 0} {R : Semiring V} {N : Numbering V} {reversed : Bool} (laws
 
     right : AllZip (IsRight R N reversed report) (asserts (nameless p)) verdicts
     right = AllZip-weaker (IsJudgedBy R N reversed value) (IsRight R N reversed report)
-        (λ a b h. at_point (λ n rows. (b ≡ true) ↔ IsProvenOn R N reversed n (IsCombination R n rows) a.claim) a.point h)
+        (λ a b h. at_point (λ n rows. (b ≡ true) ↔ IsProvenOn R N reversed n (IsCombination R n rows) a.claim) a.point
+        h)
         (asserts (nameless p)) verdicts by_asserts
 
     pub inductive : IsInductive R N reversed report
@@ -156,7 +160,8 @@ module _ {V : Type 0} {R : Semiring V} {N : Numbering V} {reversed : Bool} (laws
     pub inequalities : ArePrintedTrue R N report
     inequalities q s v = printed_is_true laws numbers report inductive fit q s v
 
-    assert_suits : (k : ℕ) (a : Assertion) → slice_get (asserts (nameless p)) k ≡ Some a → SuitsClaim reversed vars a.claim
+    assert_suits : (k : ℕ) (a : Assertion) → slice_get (asserts (nameless p)) k ≡ Some a → SuitsClaim reversed vars
+        a.claim
     assert_suits k a is =
         let xs = asserts (nameless p) in
         let l : k < length xs = slice_get_within xs k a is in
@@ -180,7 +185,8 @@ module _ {V : Type 0} {R : Semiring V} {N : Numbering V} {reversed : Bool} (laws
         (polyhedra_laws laws numbers 63).one end gives (record { cause = cause_of cause; place = place_of place }) h
     unstopped OverLimit (PointPolar q i k) h =
         let same : ◌≡◌ {A = Outcome (End (Value V))} (Gives h.end) (Gives end) =
-        analysis_is_one (polyhedra R N reversed) (graph_of (nameless p)) delay narrow (polyhedra_laws laws numbers 63).one
+        analysis_is_one (polyhedra R N reversed) (graph_of (nameless p)) delay narrow (polyhedra_laws laws numbers
+        63).one
         (Gives h.end) (Gives end) h.gives gives in
         let is : h.end ≡ end = cc in
         (part_made q (subst (λ (E : End (Value V)). q < length E.values) is h.inside)).unstopped i k
@@ -208,7 +214,11 @@ module _ {V : Type 0} {R : Semiring V} {N : Numbering V} {reversed : Bool} (laws
     small : All (λ (x : Part V). rows_size R x.rows ≤ greatest_entry) (parts_of parts)
     small k d l =
         let e = length-report in
-        let h = AllZip-at (IsPartMade R) end.values (parts_of parts) k (nothing vars) d parts_made (omega (arith, l, e)) in
+        let h = AllZip-at (IsPartMade R) end.values (parts_of parts) k (nothing vars) d parts_made (omega (
+          arith,
+          l,
+          e,
+        )) in
         let s = ap (rows_size R) h.rows_are in
         let m = h.kept.small in
         omega (arith, s, m)

@@ -1,5 +1,5 @@
 -- The asserts of a program that is read under the rule of a mode can be judged in the semiring of the mode.
-use Rattle.std.proofs.Common.{◌≡◌, ◌+◌, ◌^◌, ℕ, Bool, true, false, List, [], ◌∷◌, ◌++◌, refl, subst, sym}
+use Rattle.std.proofs.Common.{◌≡◌, ◌+◌, ◌^◌, ℕ, Bool, true, false, List, [], ◌∷◌, refl, subst, sym}
 use Rattle.std.specs.Prelude.{All}
 use Rattle.std.proofs.lemmas.List.Elements.{All-nil, All-cons, All-append}
 use Rattle.prog_theory.specs.States.{Term}
@@ -33,7 +33,11 @@ side_suits InMin Least terms h = refl
 
 mutual
   stmt_suits : (mode : Mode) (st : Stmt) → SuitsStmt (rule_of mode) st → EachClaim (SuitsWords (is_reversed mode)) st
-  stmt_suits mode (Assert c) h = (side_suits mode c.left.word c.left.terms h.0, side_suits mode c.right.word c.right.terms h.1)
+  stmt_suits mode (Assert c) h = (
+    side_suits mode c.left.word c.left.terms h.0,
+    side_suits mode c.right.word
+        c.right.terms h.1,
+  )
   stmt_suits mode (If c a b) h = (block_suits mode a h.0, block_suits mode b h.1)
   stmt_suits mode (While c a) h = block_suits mode a h
   stmt_suits mode (Set x t) h = tt
@@ -59,30 +63,46 @@ program_suits L mode ts p h = block_suits mode p.body (program_sides L mode ts p
 -- ---- claims that can be judged
 
 mutual
-  stmt_judgeable : (reversed : Bool) (vars : ℕ) (st : Stmt) → EachClaim (SuitsWords reversed) st → EachClaim IsClaim st →
-      FitsStmt vars st → EachStmt (λ x. Unit {0}) (IsNumberWithin (2 ^ 31)) st → EachClaim (IsJudgeable reversed vars) st
+  stmt_judgeable : (reversed : Bool) (vars : ℕ) (st : Stmt) → EachClaim (SuitsWords reversed) st → EachClaim IsClaim
+      st →
+      FitsStmt vars st → EachStmt (λ x. Unit {0}) (IsNumberWithin (2 ^ 31)) st → EachClaim (IsJudgeable reversed vars)
+      st
   stmt_judgeable reversed vars (Assert c) suits sides fits numbers = record {
     suits = suits;
     sides = sides;
     fits = record { left = fits.0; right = fits.1; left_numbers = numbers.0; right_numbers = numbers.1 };
   }
-  stmt_judgeable reversed vars (If c a b) suits sides fits numbers =
-      (judgeable reversed vars a suits.0 sides.0 fits.1 numbers.1, judgeable reversed vars b suits.1 sides.1 fits.2 numbers.2)
-  stmt_judgeable reversed vars (While c a) suits sides fits numbers = judgeable reversed vars a suits sides fits.1 numbers.1
+  stmt_judgeable reversed vars (If c a b) suits sides fits numbers = (
+    judgeable reversed vars a suits.0 sides.0 fits.1 numbers.1,
+    judgeable reversed vars b suits.1 sides.1 fits.2
+        numbers.2,
+  )
+  stmt_judgeable reversed vars (While c a) suits sides fits numbers = judgeable reversed vars a suits sides fits.1
+      numbers.1
   stmt_judgeable reversed vars (Set x t) suits sides fits numbers = tt
   stmt_judgeable reversed vars (Havoc x) suits sides fits numbers = tt
   stmt_judgeable reversed vars (Assume c) suits sides fits numbers = tt
   stmt_judgeable reversed vars Skip suits sides fits numbers = tt
 
   pub judgeable : (reversed : Bool) (vars : ℕ) (b : Block) → EachClaims (SuitsWords reversed) b → EachClaims IsClaim b →
-      FitsBlock vars b → EachBlock (λ x. Unit {0}) (IsNumberWithin (2 ^ 31)) b → EachClaims (IsJudgeable reversed vars) b
+      FitsBlock vars b → EachBlock (λ x. Unit {0}) (IsNumberWithin (2 ^ 31)) b → EachClaims (IsJudgeable reversed
+      vars) b
   judgeable reversed vars Empty suits sides fits numbers = tt
-  judgeable reversed vars (Then st b) suits sides fits numbers =
-      (stmt_judgeable reversed vars st suits.0 sides.0 fits.0 numbers.0, judgeable reversed vars b suits.1 sides.1 fits.1 numbers.1)
+  judgeable reversed vars (Then st b) suits sides fits numbers = (
+    stmt_judgeable reversed vars st suits.0 sides.0 fits.0 numbers.0,
+    judgeable reversed vars b suits.1 sides.1
+        fits.1 numbers.1,
+  )
 
 pub claim_suits : (reversed : Bool) (vars : ℕ) (claim : Claim) → IsJudgeable reversed vars claim →
     SuitsClaim reversed vars claim
-claim_suits reversed vars claim h = record { words = h.suits; sides = h.sides; left = h.fits.left; right = h.fits.right }
+claim_suits reversed vars claim h = record {
+  words = h.suits;
+  sides = h.sides;
+  left = h.fits.left;
+  right =
+      h.fits.right;
+}
 
 -- ---- each claim of a list
 

@@ -43,7 +43,8 @@ module _ (mode : Mode) (n : ℕ) where
       )
 
 module _ (mode : Mode) (delay narrow : ℕ) (p : Named) where
-  pub report_within : (r : ReportOver Element) → IsReportMade (ring_of mode) numbering (is_reversed mode) delay narrow p r →
+  pub report_within : (r : ReportOver Element) → IsReportMade (ring_of mode) numbering (is_reversed mode) delay narrow
+      p r →
       IsReportWithin greatest_entry (in_mode mode r)
   report_within r h = record {
     delay = h.kept.delay;

@@ -1,5 +1,5 @@
 -- What is made of the value of one point.
-use Rattle.std.specs.Prelude.{◌≡◌, ◌≤◌, ◌<◌, ℕ, List, [], All, length, slice_index_or}
+use Rattle.std.specs.Prelude.{◌≡◌, ◌≤◌, ◌<◌, ℕ, List, All, length, slice_index_or}
 use Rattle.trop_theory.specs.Semiring.{Semiring}
 use Rattle.trop_theory.specs.Vectors.{rows_size}
 use Rattle.trop_theory.specs.Inequalities.{IsIn, system_size}
@@ -50,7 +50,8 @@ IsPartRefusal R v point (Range stop) = ⊥
 IsPartRefusal R v point NoMemory = Unit {0}
 
 -- the external list of the value of one of these points stops, and those of the points before do not
-pub record IsFirstStop {V : Type 0} (R : Semiring V) (values : List (Value V)) (none : Value V) (point i k : ℕ) : Type 0 where
+pub record IsFirstStop {V : Type 0} (R : Semiring V) (values : List (Value V)) (none : Value V)
+    (point i k : ℕ) : Type 0 where
   pub inside : point < length values
   pub here : IsListStop R (slice_index_or values point none) i k
   pub before : (q : ℕ) → q < point → (j l : ℕ) → IsListStop R (slice_index_or values q none) j l → ⊥

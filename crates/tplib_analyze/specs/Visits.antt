@@ -15,7 +15,8 @@ abbrev pub ArePrintedTrue : {V : Type 0} → Semiring V → Numbering V → Repo
 ArePrintedTrue R N report = (q : ℕ) (s : State) → Visits report.program q s →
     All (λ i. IsTrueAt R i (vector R N s)) (part_at report q).printed
 
--- each claim that is said to be proved is true, in ordinary numbers, of each state with which a run visits its statement
+-- each claim that is said to be proved is true, in ordinary numbers, of each state with which a run visits its
+-- statement
 abbrev pub AreProvedTrue : {V : Type 0} → Report V → Type 0
 AreProvedTrue report = (k : ℕ) (a : Assertion) → slice_get (asserts report.program) k ≡ Some a →
     slice_get report.verdicts k ≡ Some true → (s : State) → Visits report.program a.point s → IsTrueOf a.claim s

@@ -45,7 +45,8 @@ fn push_verdict<S: Numeric>(
     requires inside { point < length values.now }
     requires vars { (slice_index_or values.now point (nothing vars)).vars ≡ vars }
     requires judgeable { IsJudgeable S.REVERSED vars (claim_of claim.now) }
-    ensures { OnOk result (AreAdded (IsVerdictOn S.ring S.numbering S.REVERSED (λ q. slice_index_or values.now q (nothing vars)))
+    ensures { OnOk result (AreAdded (IsVerdictOn S.ring S.numbering S.REVERSED
+        (λ q. slice_index_or values.now q (nothing vars)))
         (claims_st point (tree.Assert (claim_of claim.now))) out.old.items out.new.items) }
 {
     let proved = values[point as usize].proves(claim);
@@ -67,8 +68,8 @@ fn stmt_verdicts<S: Numeric>(
     requires vars { (q : ℕ) → q < length values.now → (slice_index_or values.now q (nothing vars)).vars ≡ vars }
     requires judgeable { EachClaim (IsJudgeable S.REVERSED vars) (stmt_of st.now) }
     ensures next { IfOk result (λ next. next ≡ point + width (stmt_of st.now)) }
-    ensures added { OnOk result (AreAdded (IsVerdictOn S.ring S.numbering S.REVERSED (λ q. slice_index_or values.now q (nothing vars)))
-        (claims_st point (stmt_of st.now)) out.old.items out.new.items) }
+    ensures added { OnOk result (AreAdded (IsVerdictOn S.ring S.numbering S.REVERSED
+        (λ q. slice_index_or values.now q (nothing vars))) (claims_st point (stmt_of st.now)) out.old.items out.new.items) }
 {
     match st {
         Stmt::If(c, a, b) => {
@@ -101,8 +102,8 @@ fn block_verdicts<S: Numeric>(
     requires vars { (q : ℕ) → q < length values.now → (slice_index_or values.now q (nothing vars)).vars ≡ vars }
     requires judgeable { EachClaims (IsJudgeable S.REVERSED vars) block.now }
     ensures next { IfOk result (λ next. next ≡ point + widths block.now) }
-    ensures added { OnOk result (AreAdded (IsVerdictOn S.ring S.numbering S.REVERSED (λ q. slice_index_or values.now q (nothing vars)))
-        (claims_bl point block.now) out.old.items out.new.items) }
+    ensures added { OnOk result (AreAdded (IsVerdictOn S.ring S.numbering S.REVERSED
+        (λ q. slice_index_or values.now q (nothing vars))) (claims_bl point block.now) out.old.items out.new.items) }
 {
     let mut at = point;
     for st in &block.stmts {
@@ -122,8 +123,8 @@ pub(crate) fn verdicts<S: Numeric>(
     requires inside { widths body.now ≤ length values.now }
     requires vars { (q : ℕ) → q < length values.now → (slice_index_or values.now q (nothing vars)).vars ≡ vars }
     requires judgeable { EachClaims (IsJudgeable S.REVERSED vars) body.now }
-    ensures { IfOk result (λ out. AllZip (IsVerdictOn S.ring S.numbering S.REVERSED (λ q. slice_index_or values.now q (nothing vars)))
-        (claims_bl 0 body.now) out.items) }
+    ensures { IfOk result (λ out. AllZip (IsVerdictOn S.ring S.numbering S.REVERSED
+        (λ q. slice_index_or values.now q (nothing vars))) (claims_bl 0 body.now) out.items) }
 {
     let mut out = Vec::new(alloc);
     block_verdicts(&mut out, vars, values, body, 0)?;

@@ -70,7 +70,7 @@ faulty Join bytes fault said h s = h.first.spelled said s
 faulty Meet bytes fault said h s = h.first.spelled said s
 faulty (Forget var) bytes fault said h s = forget_apart var.now bytes fault said h s
 faulty (Trace turns) bytes fault said h s = h.first.spelled said s
-faulty (Analyze mode delay narrow) bytes fault said h s = h
+faulty (Analyze mode delay narrow) bytes fault said h s = h.first.spelled said s
 faulty Check bytes fault said h s = h
 faulty (Sample seed vars rows) bytes fault said h s = h
 

@@ -7,6 +7,7 @@ use Rattle.trop_files.specs.Generators.{GeneratorFile}
 use Rattle.trop_files.specs.InequalityFiles.{InequalityFile}
 use Rattle.trop_files.specs.PairFiles.{TwoFile}
 use Rattle.trop_files.specs.AtFiles.{AtText}
+use Rattle.prog_theory.specs.Named.{Named}
 use Rattle.prog_texts.specs.Traces.{TraceFile}
 use Rattle.tplib_reply.specs.Meaning.{Meaning, never}
 use Rattle.tplib_cones.specs.Reduce.{reduce_meaning}
@@ -19,6 +20,8 @@ use Rattle.tplib_poly.specs.Sample.{Numbers, sample_meaning}
 use Rattle.tplib_lean.specs.Lean.{lean_meaning}
 use Rattle.tplib_tangent.specs.Tangent.{tangent_meaning}
 use Rattle.tplib_progs.specs.Trace.{trace_meaning}
+use Rattle.tplib_analyze.specs.Modes.{mode_of}
+use Rattle.tplib_analyze.specs.Analyze.{analyze_meaning}
 
 -- The command is built. Words of one that is not are bad words.
 abbrev pub IsBuilt : Command → Type 0
@@ -32,7 +35,7 @@ IsBuilt Join = Unit {0}
 IsBuilt Meet = Unit {0}
 IsBuilt (Forget var) = Unit {0}
 IsBuilt (Trace turns) = Unit {0}
-IsBuilt (Analyze mode delay narrow) = ⊥
+IsBuilt (Analyze mode delay narrow) = Unit {0}
 IsBuilt Check = ⊥
 IsBuilt (Sample seed vars rows) = Unit {0}
 
@@ -85,7 +88,7 @@ Said Join = TwoFile
 Said Meet = TwoFile
 Said (Forget var) = GeneratorFile
 Said (Trace turns) = TraceFile
-Said (Analyze mode delay narrow) = ⊥
+Said (Analyze mode delay narrow) = Named
 Said Check = ⊥
 Said (Sample seed vars rows) = Numbers
 
@@ -105,6 +108,6 @@ meaning_of Join = pair_meaning pair.Join
 meaning_of Meet = pair_meaning pair.Meet
 meaning_of (Forget var) = forget_meaning var.now
 meaning_of (Trace turns) = trace_meaning turns
-meaning_of (Analyze mode delay narrow) = unbuilt
+meaning_of (Analyze mode delay narrow) = analyze_meaning (mode_of mode) delay narrow
 meaning_of Check = unbuilt
 meaning_of (Sample seed vars rows) = sample_meaning seed vars rows

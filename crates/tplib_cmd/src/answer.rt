@@ -6,6 +6,7 @@ ghost use Rattle.tplib_reply.specs.Meaning.{IsReply, IsRefused};
 ghost use Rattle.tplib_cmd.specs.Commands.{IsBuilt, IsInRange, reads, meaning_of};
 
 use std::alloc::Global;
+use tplib_analyze::analyze_reply;
 use tplib_cones::{ext_reply, reduce_reply};
 use tplib_lean::lean_reply;
 use tplib_poly::{PairCommand, forget_reply, int_reply, pair_reply, sample_reply};
@@ -35,7 +36,12 @@ pub(crate) fn answer(alloc: Global, command: Command<'_>, bytes: &[u8]) -> Resul
         Command::Forget { var } => forget_reply(alloc, var, bytes),
         Command::Sample { seed, vars, rows } => sample_reply(alloc, seed, vars, rows),
         Command::Trace { turns } => trace_reply(alloc, turns, bytes),
-        Command::Analyze { .. } | Command::Check => unreachable!(),
+        Command::Analyze {
+            mode,
+            delay,
+            narrow,
+        } => analyze_reply(alloc, mode, delay, narrow, bytes),
+        Command::Check => unreachable!(),
     }
 }
 

@@ -21,7 +21,7 @@ pub(crate) fn read_command(words: &[String]) -> Option<Command<'_>>
 fn is_built(command: Command<'_>) -> bool
     ensures { IsTrue result ↔ IsBuilt command.entry }
 {
-    !matches!(command, Command::Analyze { .. } | Command::Check)
+    !matches!(command, Command::Check)
 }
 
 // Whether the command reads its input.

@@ -15,3 +15,4 @@ pub mod Understood
 pub mod Ends
 pub mod Trips
 pub mod RoundTrips
+pub mod Checked

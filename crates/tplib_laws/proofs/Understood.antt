@@ -1,4 +1,4 @@
--- Which command single words spell: int_understood, ext_understood.
+-- Which command single words spell: int_understood, ext_understood, check_understood.
 use Rattle.std.proofs.Common.{◌≡◌, ℕ, true, false, List, [], ◌∷◌, length, codes, inl, inr, refl, ap, subst, arith}
 use Rattle.trop_words.specs.declared.command.Command.{Command}
 use Rattle.trop_words.specs.declared.command.Command.TheVariants.{Reduce, Ext, Int, Tangent, Include, Equal, Join, Meet, Forget, Trace, Analyze, Check, Sample}
@@ -25,7 +25,7 @@ int_alone Join h = absurd (omega (arith, ap first_byte h.spelled))
 int_alone Meet h = absurd (omega (arith, ap first_byte h.spelled))
 int_alone (Forget var) h = absurd (omega (arith, ap first_byte h.spelled.1))
 int_alone (Trace turns) h = absurd (omega (arith, ap first_byte h.spelled.1))
-int_alone (Analyze mode delay narrow) h = absurd h.built
+int_alone (Analyze mode delay narrow) h = absurd (omega (arith, ap first_byte h.spelled.6))
 int_alone Check h = absurd h.built
 int_alone (Sample seed vars rows) h = absurd (omega (arith, ap first_byte h.spelled.4))
 
@@ -41,7 +41,7 @@ ext_alone Join h = absurd (omega (arith, ap first_byte h.spelled))
 ext_alone Meet h = absurd (omega (arith, ap first_byte h.spelled))
 ext_alone (Forget var) h = absurd (omega (arith, ap first_byte h.spelled.1))
 ext_alone (Trace turns) h = absurd (omega (arith, ap first_byte h.spelled.1))
-ext_alone (Analyze mode delay narrow) h = absurd h.built
+ext_alone (Analyze mode delay narrow) h = absurd (omega (arith, ap first_byte h.spelled.6))
 ext_alone Check h = absurd h.built
 ext_alone (Sample seed vars rows) h = absurd (omega (arith, ap first_byte h.spelled.4))
 
@@ -58,3 +58,22 @@ int_understood = understood (codes "int" ∷ []) plain_int (record { spelled = r
 
 pub ext_understood : (run : Run) (status : Status) → EndsWith (codes "ext" ∷ []) run status → Ends Ext run status
 ext_understood = understood (codes "ext" ∷ []) Ext (record { spelled = refl; built = tt }) ext_alone
+
+check_alone : (command : Command) → IsCommand (codes "check" ∷ []) command → command ≡ Check
+check_alone Check h = refl
+check_alone Reduce h = absurd (omega (arith, ap first_byte h.spelled))
+check_alone Ext h = absurd (omega (arith, ap first_byte h.spelled))
+check_alone (Int false) h = absurd (omega (arith, ap first_byte h.spelled))
+check_alone (Int true) h = absurd (omega (arith, ap first_byte h.spelled))
+check_alone Tangent h = absurd (omega (arith, ap first_byte h.spelled))
+check_alone Include h = absurd (omega (arith, ap first_byte h.spelled))
+check_alone Equal h = absurd (omega (arith, ap first_byte h.spelled))
+check_alone Join h = absurd (omega (arith, ap first_byte h.spelled))
+check_alone Meet h = absurd (omega (arith, ap first_byte h.spelled))
+check_alone (Forget var) h = absurd (omega (arith, ap first_byte h.spelled.1))
+check_alone (Trace turns) h = absurd (omega (arith, ap first_byte h.spelled.1))
+check_alone (Analyze mode delay narrow) h = absurd (omega (arith, ap first_byte h.spelled.6))
+check_alone (Sample seed vars rows) h = absurd (omega (arith, ap first_byte h.spelled.4))
+
+pub check_understood : (run : Run) (status : Status) → EndsWith (codes "check" ∷ []) run status → Ends Check run status
+check_understood = understood (codes "check" ∷ []) Check (record { spelled = refl; built = tt }) check_alone

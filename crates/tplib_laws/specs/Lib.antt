@@ -1,3 +1,4 @@
 pub mod Both
 pub mod EqualBytes
 pub mod RoundTrips
+pub mod Checked

@@ -11,7 +11,8 @@ use Rattle.tplib_analyze.proofs.analyze.in_max.Goals as goal
 
 pub report-requires-clause-suits : goal.report-requires-clause-suits
 report-requires-clause-suits c =
-    program_suits program_limits InMax (program_pieces c.args.bytes.now) c.in_ok-program.program c.in_ok-program.ensures.found
+    program_suits program_limits InMax (program_pieces c.args.bytes.now) c.in_ok-program.program
+    c.in_ok-program.ensures.found
 
 pub returns-in_err-report-clause-refused : goal.returns-in_err-report-clause-refused
 returns-in_err-report-clause-refused c =

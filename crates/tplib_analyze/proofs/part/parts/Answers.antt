@@ -9,7 +9,8 @@ pub returns-in_err-made-clause-refused : goal.returns-in_err-made-clause-refused
 returns-in_err-made-clause-refused g c =
     let p = err_from_is_err_and c.from_residual.result c.from_residual.ensures.1 in
     rw (p.1, p.2) (parts_stopped g.S.Scalar.ring c.args.values.now c.loop-q.parts.items c.loop-q.q (omega arith)
-    c.loop-q.invariant c.index-values-q.result c.index-values-q.is c.in_err-made.field-0.0 c.in_err-made.ensures.refused)
+    c.loop-q.invariant c.index-values-q.result c.index-values-q.is c.in_err-made.field-0.0
+    c.in_err-made.ensures.refused)
 
 pub loop-q-preserved : goal.loop-q-preserved
 loop-q-preserved g c =

@@ -1,12 +1,9 @@
-use Rattle.std.proofs.Common.{◌≡◌, ℕ, List, get_or, length, refl, ap, sym, subst, arith}
+use Rattle.std.proofs.Common.{refl, ap, sym, subst, arith}
 use Rattle.std.specs.List.{AllZip}
 use Rattle.std.proofs.lemmas.Result.{err_from_is_err_and}
 use Rattle.prog_theory.specs.ControlGraphs.{ControlGraph}
-use Rattle.prog_theory.specs.Statements.{Block}
 use Rattle.dom_theory.specs.Analysis.{End}
 use Rattle.cone_domain.specs.Values.{Value}
-use Rattle.cone_domain.specs.Polyhedra.{nothing}
-use Rattle.tplib_analyze.specs.Claims.{claims_bl, IsVerdictOn}
 use Rattle.tplib_analyze.specs.Made.{IsReportMade}
 use Rattle.tplib_analyze.specs.Parts.{IsPointMade, IsPartsRefusal}
 use Rattle.tplib_analyze.proofs.Passes.{passes_within}
@@ -36,7 +33,8 @@ parts-requires g c =
     let p = c.args.program in
     let E : End (Value _) = record { values = c.in-Ok.family.values.items; passes = c.in-Ok.family.passes } in
     record {
-      few = few_values g.met.S.Scalar.ring_laws g.met.S.Numeric.numeric_laws p c.vars-vars.ensures.keeps.within c.requires.suits
+      few = few_values g.met.S.Scalar.ring_laws g.met.S.Numeric.numeric_laws p c.vars-vars.ensures.keeps.within
+          c.requires.suits
           c.args.delay c.args.narrow E (family_gives R N reversed c.args.delay c.args.narrow p c.in_ok-graph.graph
           c.in_ok-graph.ensures.graph E c.in-Ok.ensures.comes) c.as_slice-values.result.now c.as_slice-values.ensures.value;
     }
@@ -52,7 +50,8 @@ returns-in_err-parts-clause-refused g c =
     rw (r.1, r.2) (parts_refused R N reversed c.args.delay c.args.narrow p E
     (family_gives R N reversed c.args.delay c.args.narrow p c.in_ok-graph.graph c.in_ok-graph.ensures.graph E
     c.in-Ok.ensures.comes) c.in_err-parts.field-0.0
-    (subst (λ vs. IsPartsRefusal R vs c.in_err-parts.field-0.0) c.as_slice-values.ensures.value c.in_err-parts.ensures.refused))
+    (subst (λ vs. IsPartsRefusal R vs c.in_err-parts.field-0.0) c.as_slice-values.ensures.value
+    c.in_err-parts.ensures.refused))
 
 pub verdicts-requires-clause-few : goal.verdicts-requires-clause-few
 verdicts-requires-clause-few g c =
@@ -72,7 +71,8 @@ verdicts-requires-clause-inside g c =
     let reversed = g.S.Scalar.REVERSED in
     let p = c.args.program in
     let E : End (Value _) = record { values = c.in-Ok.family.values.items; passes = c.in-Ok.family.passes } in
-    points_inside g.met.S.Scalar.ring_laws g.met.S.Numeric.numeric_laws p c.vars-vars.ensures.keeps.within c.requires.suits
+    points_inside g.met.S.Scalar.ring_laws g.met.S.Numeric.numeric_laws p c.vars-vars.ensures.keeps.within
+    c.requires.suits
     c.args.delay c.args.narrow E (family_gives R N reversed c.args.delay c.args.narrow p c.in_ok-graph.graph
     c.in_ok-graph.ensures.graph E c.in-Ok.ensures.comes) c.as_slice-values.result.now c.as_slice-values.ensures.value
     c.body.result.now c.body.ensures.value
@@ -96,7 +96,8 @@ verdicts-requires-clause-judgeable g c =
     let reversed = g.S.Scalar.REVERSED in
     let p = c.args.program in
     let E : End (Value _) = record { values = c.in-Ok.family.values.items; passes = c.in-Ok.family.passes } in
-    body_judgeable g.met.S.Scalar.ring_laws g.met.S.Numeric.numeric_laws p c.vars-vars.ensures.keeps.within c.requires.suits
+    body_judgeable g.met.S.Scalar.ring_laws g.met.S.Numeric.numeric_laws p c.vars-vars.ensures.keeps.within
+    c.requires.suits
     c.args.delay c.args.narrow E (family_gives R N reversed c.args.delay c.args.narrow p c.in_ok-graph.graph
     c.in_ok-graph.ensures.graph E c.in-Ok.ensures.comes) c.as_slice-values.result.now c.as_slice-values.ensures.value
     c.vars-vars.result c.body.result.now c.vars-vars.ensures.value c.body.ensures.value
@@ -108,11 +109,13 @@ new-requires-clause-passes g c =
     let reversed = g.S.Scalar.REVERSED in
     let p = c.args.program in
     let E : End (Value _) = record { values = c.in-Ok.family.values.items; passes = c.in-Ok.family.passes } in
-    let G = graph g.met.S.Scalar.ring_laws g.met.S.Numeric.numeric_laws p c.vars-vars.ensures.keeps.within c.requires.suits
+    let G = graph g.met.S.Scalar.ring_laws g.met.S.Numeric.numeric_laws p c.vars-vars.ensures.keeps.within
+    c.requires.suits
     c.args.delay c.args.narrow E (family_gives R N reversed c.args.delay c.args.narrow p c.in_ok-graph.graph
     c.in_ok-graph.ensures.graph E c.in-Ok.ensures.comes) in
     (passes_within c.in-Ok.family.passes _ c.args.delay (passes_bound R N reversed c.args.delay c.args.narrow p
-    c.in_ok-graph.graph c.in_ok-graph.ensures.graph c.in-Ok.family.passes c.in-Ok.ensures.passes) G.few c.requires.delay).1
+    c.in_ok-graph.graph c.in_ok-graph.ensures.graph c.in-Ok.family.passes c.in-Ok.ensures.passes) G.few
+    c.requires.delay).1
 
 pub new-requires-clause-graph : goal.new-requires-clause-graph
 new-requires-clause-graph g c = c.in_ok-graph.ensures.graph
@@ -131,8 +134,10 @@ new-requires-clause-points g c =
     let judged = judged_as R N reversed p E.values c.as_slice-values.result.now c.as_slice-values.ensures.value
     c.vars-vars.result c.vars-vars.ensures.value c.body.result.now c.body.ensures.value c.in_ok-verdicts.verdicts.items
     c.in_ok-verdicts.ensures in
-    length-parts g.met.S.Scalar.ring_laws g.met.S.Numeric.numeric_laws p c.vars-vars.ensures.keeps.within c.requires.suits
-    c.args.delay c.args.narrow E gives g.met.S.Scalar.number_laws c.in_ok-parts.parts.items c.in_ok-verdicts.verdicts.items
+    length-parts g.met.S.Scalar.ring_laws g.met.S.Numeric.numeric_laws p c.vars-vars.ensures.keeps.within
+    c.requires.suits
+    c.args.delay c.args.narrow E gives g.met.S.Scalar.number_laws c.in_ok-parts.parts.items
+    c.in_ok-verdicts.verdicts.items
     made judged
 
 pub new-requires-clause-parts : goal.new-requires-clause-parts
@@ -149,8 +154,10 @@ new-requires-clause-parts g c =
     let judged = judged_as R N reversed p E.values c.as_slice-values.result.now c.as_slice-values.ensures.value
     c.vars-vars.result c.vars-vars.ensures.value c.body.result.now c.body.ensures.value c.in_ok-verdicts.verdicts.items
     c.in_ok-verdicts.ensures in
-    points_kept g.met.S.Scalar.ring_laws g.met.S.Numeric.numeric_laws p c.vars-vars.ensures.keeps.within c.requires.suits
-    c.args.delay c.args.narrow E gives g.met.S.Scalar.number_laws c.in_ok-parts.parts.items c.in_ok-verdicts.verdicts.items
+    points_kept g.met.S.Scalar.ring_laws g.met.S.Numeric.numeric_laws p c.vars-vars.ensures.keeps.within
+    c.requires.suits
+    c.args.delay c.args.narrow E gives g.met.S.Scalar.number_laws c.in_ok-parts.parts.items
+    c.in_ok-verdicts.verdicts.items
     made judged
 
 pub new-requires-clause-asserts : goal.new-requires-clause-asserts
@@ -167,8 +174,10 @@ new-requires-clause-asserts g c =
     let judged = judged_as R N reversed p E.values c.as_slice-values.result.now c.as_slice-values.ensures.value
     c.vars-vars.result c.vars-vars.ensures.value c.body.result.now c.body.ensures.value c.in_ok-verdicts.verdicts.items
     c.in_ok-verdicts.ensures in
-    length-verdicts g.met.S.Scalar.ring_laws g.met.S.Numeric.numeric_laws p c.vars-vars.ensures.keeps.within c.requires.suits
-    c.args.delay c.args.narrow E gives g.met.S.Scalar.number_laws c.in_ok-parts.parts.items c.in_ok-verdicts.verdicts.items
+    length-verdicts g.met.S.Scalar.ring_laws g.met.S.Numeric.numeric_laws p c.vars-vars.ensures.keeps.within
+    c.requires.suits
+    c.args.delay c.args.narrow E gives g.met.S.Scalar.number_laws c.in_ok-parts.parts.items
+    c.in_ok-verdicts.verdicts.items
     made judged
 
 pub returns-clause-made : goal.returns-clause-made
@@ -186,8 +195,10 @@ returns-clause-made g c =
     c.vars-vars.result c.vars-vars.ensures.value c.body.result.now c.body.ensures.value c.in_ok-verdicts.verdicts.items
     c.in_ok-verdicts.ensures in
     subst (IsReportMade R N reversed c.args.delay c.args.narrow p) (sym c.new.ensures)
-    (report_made g.met.S.Scalar.ring_laws g.met.S.Numeric.numeric_laws p c.vars-vars.ensures.keeps.within c.requires.suits
-    c.args.delay c.args.narrow E gives g.met.S.Scalar.number_laws c.in_ok-parts.parts.items c.in_ok-verdicts.verdicts.items
+    (report_made g.met.S.Scalar.ring_laws g.met.S.Numeric.numeric_laws p c.vars-vars.ensures.keeps.within
+    c.requires.suits
+    c.args.delay c.args.narrow E gives g.met.S.Scalar.number_laws c.in_ok-parts.parts.items
+    c.in_ok-verdicts.verdicts.items
     made judged c.vars-vars.ensures.keeps c.requires.delay c.requires.narrow c.in-Ok.family.passes refl
     (passes_bound R N reversed c.args.delay c.args.narrow p c.in_ok-graph.graph c.in_ok-graph.ensures.graph
     c.in-Ok.family.passes c.in-Ok.ensures.passes))

@@ -1,5 +1,5 @@
-use Rattle.std.proofs.Common.{◌+◌, ◌∙◌, drop, get_or, ap, refl, sym, arith}
-use Rattle.prog_tree.specs.Stmts.{stmt_of, block_of}
+use Rattle.std.proofs.Common.{◌+◌, drop, get_or, ap, refl, arith}
+use Rattle.prog_tree.specs.Stmts.{stmt_of}
 use Rattle.cone_domain.specs.Polyhedra.{nothing}
 use Rattle.tplib_analyze.specs.Claims.{IsJudgeable, IsVerdictOn}
 use Rattle.tplib_analyze.proofs.Added.{if_added, while_added, none_added}
@@ -39,7 +39,8 @@ block_verdicts-loop-st-preserved g t c =
     record {
       left = IsLeft-more (IsVerdictOn g.S.Scalar.ring g.S.Scalar.numbering reversed
           (λ q. get_or c.args.values.now q (nothing c.args.vars))) c.loop-st.at c.in_ok-at.at c.args.point (drop i xs)
-          (drop (i + 1) xs) c.st-item.result _ _ _ c.args.block.now step c.in_ok-at.ensures.next c.loop-st.invariant.left
+          (drop (i + 1) xs) c.st-item.result _ _ _ c.args.block.now step c.in_ok-at.ensures.next
+          c.loop-st.invariant.left
           c.in_ok-at.ensures.added;
       fits = fits_more (drop i xs) (drop (i + 1) xs) c.st-item.result c.loop-st.at c.in_ok-at.at _ step
           c.in_ok-at.ensures.next c.loop-st.invariant.fits;

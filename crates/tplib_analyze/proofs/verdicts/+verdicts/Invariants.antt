@@ -9,7 +9,8 @@ use Rattle.tplib_analyze.proofs.verdicts.+verdicts.Given as goal
 
 abbrev pub invariant-block_verdicts-loop-st : goal.invariant-block_verdicts-loop-st
 invariant-block_verdicts-loop-st g l = record {
-  left : IsLeft (IsVerdictOn g.S.Scalar.ring g.S.Scalar.numbering g.S.Scalar.REVERSED (λ q. get_or l.values q (nothing l.vars)))
+  left : IsLeft (IsVerdictOn g.S.Scalar.ring g.S.Scalar.numbering g.S.Scalar.REVERSED (λ q. get_or l.values q (nothing
+      l.vars)))
       l.at (block_of (drop l.st-index l.st-items)) l.out.items l.point l.block l.fn.out.items;
   fits : l.at + widths (block_of (drop l.st-index l.st-items)) ≡ l.point + widths l.block;
   judgeable : EachClaims (IsJudgeable g.S.Scalar.REVERSED l.vars) (block_of (drop l.st-index l.st-items));

@@ -107,6 +107,22 @@ returns-in-Trace-clause-refused c =
 pub trace_reply-requires-clause-turns : goal.trace_reply-requires-clause-turns
 trace_reply-requires-clause-turns c = subst IsInRange c.in-Trace.is c.requires.range
 
+pub returns-in-Analyze-clause-reply : goal.returns-in-Analyze-clause-reply
+returns-in-Analyze-clause-reply c =
+    subst (λ command. IfOk c.analyze_reply.result (IsReply (meaning_of command) c.args.bytes.now))
+    (sym c.in-Analyze.is) c.analyze_reply.ensures.reply
+
+pub returns-in-Analyze-clause-refused : goal.returns-in-Analyze-clause-refused
+returns-in-Analyze-clause-refused c =
+    subst (λ command. IfErr c.analyze_reply.result (IsRefused (meaning_of command) c.args.bytes.now))
+    (sym c.in-Analyze.is) c.analyze_reply.ensures.refused
+
+pub analyze_reply-requires-clause-delay : goal.analyze_reply-requires-clause-delay
+analyze_reply-requires-clause-delay c = (subst IsInRange c.in-Analyze.is c.requires.range).0
+
+pub analyze_reply-requires-clause-narrow : goal.analyze_reply-requires-clause-narrow
+analyze_reply-requires-clause-narrow c = (subst IsInRange c.in-Analyze.is c.requires.range).1
+
 pub returns-in-Sample-clause-reply : goal.returns-in-Sample-clause-reply
 returns-in-Sample-clause-reply c =
     let none : c.args.bytes.now ≡ [] = c.requires.input (ap reads c.in-Sample.is) in

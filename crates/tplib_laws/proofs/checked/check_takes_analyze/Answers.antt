@@ -1,0 +1,6 @@
+use Rattle.tplib_laws.proofs.Checked.{check_trip}
+use Rattle.tplib_laws.proofs.checked.check_takes_analyze.Goals as goal
+
+pub returns : goal.returns
+returns c = λ mode delay narrow run other status first short known h.
+    check_trip mode delay narrow run other status first short known h
