@@ -19,12 +19,9 @@ item_at [] k h = absurd (omega (arith, h))
 item_at (x ∷ xs) zero h = record { item = x; got = refl }
 item_at (x ∷ xs) (suc k) h = let i = item_at xs k (omega (arith, h)) in record { item = i.item; got = i.got }
 
--- an item that was looked up in another way is the same
-pub same_item : {A : Type 0} (xs : List A) (k : ℕ) (x y : A) → slice_get xs k ≡ Some x → y ≡ get_or xs k y → k < length xs
-    → y ≡ x
-same_item [] k x y e f h = absurd (omega (arith, h))
-same_item (z ∷ xs) zero x y e f h = let same : z ≡ x = cc in f ∙ same
-same_item (z ∷ xs) (suc k) x y e f h = same_item xs k x y e f (omega (arith, h))
+-- two look-ups at one place
+pub same_item : {A : Type 0} (xs : List A) (k : ℕ) (x y : A) → slice_get xs k ≡ Some x → slice_get xs k ≡ Some y → x ≡ y
+same_item xs k x y e f = let same = sym e ∙ f in cc
 
 pub found : {A : Type 0} (xs : List A) (k : ℕ) (x d : A) → slice_get xs k ≡ Some x → get_or xs k d ≡ x
 found [] k x d e = absurd cc

@@ -65,6 +65,14 @@ fn push_part<S: Spelling>(
     push_inequalities(text, names, &part.invs)
 }
 
+// What is said of the point with the number `k`.
+fn part_at<S: Spelling>(parts: &[PointPart<S>], k: usize) -> &PointPart<S>
+    requires { k < length parts.now }
+    ensures { slice_get parts.now k ≡ Some result.now }
+{
+    &parts[k]
+}
+
 // The block of the point with the number `k`.
 fn push_block<S: Spelling>(
     text: &mut Vec<u8>,
@@ -82,7 +90,7 @@ fn push_block<S: Spelling>(
         ++ part_text S.KIND S.numbering names.now x.rows.rows x.invs.inequalities)) }
 {
     push_point(text, k as u32, points[k])?;
-    push_part(text, names, &parts[k])
+    push_part(text, names, part_at(parts, k))
 }
 
 // The blocks of points, by their numbers from 0.

@@ -26,7 +26,16 @@ const COPYING: &str =
 
 const COUNTING: &str = "vars i; i := 0; while i < 10 { i := i + 1; }";
 
-const CASES: [Case; 10] = [
+// Seven moves, each of which a turn of the loop makes or leaves out. The sum of the variables is the same at each state
+// of a point, so that no state lies below another and each is an extreme row of its own: behind the third move of the
+// third turn they are 4 * 4 * 4 * 3 * 3 * 3 * 3.
+const MOVES: &str =
+    "vars a b c d e f g h; a := 0; b := 0; c := 0; d := 0; e := 0; f := 0; g := 0; h := 0; while ? { \
+    if ? { a := a + 1; b := b - 1; } if ? { b := b + 1; c := c - 1; } if ? { c := c + 1; d := d - 1; } \
+    if ? { d := d + 1; e := e - 1; } if ? { e := e + 1; f := f - 1; } if ? { f := f + 1; g := g - 1; } \
+    if ? { g := g + 1; h := h - 1; } }";
+
+const CASES: [Case; 11] = [
     Case {
         name: "copying a string",
         reversed: true,
@@ -149,6 +158,14 @@ const CASES: [Case; 10] = [
         delay: 1000,
         narrow: 0,
         wanted: "range: pass 514 point 1 edge 3",
+    },
+    Case {
+        name: "more rows than a value may have",
+        reversed: false,
+        program: MOVES,
+        delay: 10,
+        narrow: 0,
+        wanted: "limit: pass 3 point 18 sum 21",
     },
 ];
 

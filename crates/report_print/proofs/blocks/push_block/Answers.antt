@@ -11,5 +11,5 @@ returns g c = λ p x e f.
     (both_behind _ _ _ _ _ _ c.in_ok-push_point.ensures
     (ap (λ z. point_line k (point_of z)) (found c.args.points.now k p _ e))
     (ap (λ z. part_text g.S.Spelling.KIND g.S.Scalar.numbering c.args.names.now z.rows.rows z.invs.inequalities)
-    (same_item c.args.parts.now k x c.index-parts-k.result f c.index-parts-k.is c.requires.part)))
+    (same_item c.args.parts.now k c.part_at.result.now x c.part_at.ensures f)))
     c.push_part.ensures
