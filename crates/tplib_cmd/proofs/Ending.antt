@@ -71,7 +71,7 @@ faulty Meet bytes fault said h s = h.first.spelled said s
 faulty (Forget var) bytes fault said h s = forget_apart var.now bytes fault said h s
 faulty (Trace turns) bytes fault said h s = h.first.spelled said s
 faulty (Analyze mode delay narrow) bytes fault said h s = h.first.spelled said s
-faulty Check bytes fault said h s = h
+faulty Check bytes fault said h s = h.spelled said s
 faulty (Sample seed vars rows) bytes fault said h s = h
 
 -- a run with everything in order ends with an answer

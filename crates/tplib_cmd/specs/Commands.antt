@@ -1,4 +1,4 @@
--- The commands that run, by their words: whether they read, and what they mean.
+-- The commands, by their words: whether they read, and what they mean.
 use Rattle.std.specs.Prelude.{◌≤◌, ℕ, Bool, true, false, List}
 use Rattle.trop_words.specs.Words.{IsSpelled}
 use Rattle.trop_words.specs.declared.command.Command.{Command}
@@ -9,7 +9,8 @@ use Rattle.trop_files.specs.PairFiles.{TwoFile}
 use Rattle.trop_files.specs.AtFiles.{AtText}
 use Rattle.prog_theory.specs.Named.{Named}
 use Rattle.prog_texts.specs.Traces.{TraceFile}
-use Rattle.tplib_reply.specs.Meaning.{Meaning, never}
+use Rattle.report_texts.specs.Reports.{ReportText}
+use Rattle.tplib_reply.specs.Meaning.{Meaning}
 use Rattle.tplib_cones.specs.Reduce.{reduce_meaning}
 use Rattle.tplib_cones.specs.Ext.{ext_meaning}
 use Rattle.tplib_poly.specs.declared.pair.PairCommand.TheVariants as pair
@@ -22,27 +23,11 @@ use Rattle.tplib_tangent.specs.Tangent.{tangent_meaning}
 use Rattle.tplib_progs.specs.Trace.{trace_meaning}
 use Rattle.tplib_analyze.specs.Modes.{mode_of}
 use Rattle.tplib_analyze.specs.Analyze.{analyze_meaning}
+use Rattle.tplib_check.specs.Check.{check_meaning}
 
--- The command is built. Words of one that is not are bad words.
-abbrev pub IsBuilt : Command → Type 0
-IsBuilt Reduce = Unit {0}
-IsBuilt Ext = Unit {0}
-IsBuilt Tangent = Unit {0}
-IsBuilt (Int lean) = Unit {0}
-IsBuilt Include = Unit {0}
-IsBuilt Equal = Unit {0}
-IsBuilt Join = Unit {0}
-IsBuilt Meet = Unit {0}
-IsBuilt (Forget var) = Unit {0}
-IsBuilt (Trace turns) = Unit {0}
-IsBuilt (Analyze mode delay narrow) = Unit {0}
-IsBuilt Check = ⊥
-IsBuilt (Sample seed vars rows) = Unit {0}
-
--- the words spell this command, and it is built
+-- the words spell this command
 pub record IsCommand (words : List (List ℕ)) (command : Command) : Type 0 where
   pub spelled : IsSpelled words command
-  pub built : IsBuilt command
 
 -- the numbers of a command are in their ranges; no words spell others
 abbrev pub IsInRange : Command → Type 0
@@ -76,7 +61,7 @@ reads (Analyze mode delay narrow) = true
 reads Check = true
 reads (Sample seed vars rows) = false
 
--- what the input of a command says: nothing, where the command is not built
+-- what the input of a command says
 abbrev pub Said : Command → Type 0
 Said Reduce = GeneratorFile
 Said Ext = InequalityFile
@@ -89,12 +74,8 @@ Said Meet = TwoFile
 Said (Forget var) = GeneratorFile
 Said (Trace turns) = TraceFile
 Said (Analyze mode delay narrow) = Named
-Said Check = ⊥
+Said Check = ReportText
 Said (Sample seed vars rows) = Numbers
-
--- the meaning of a command that is not built: no bytes say anything
-abbrev unbuilt : Meaning ⊥
-unbuilt = record { spells = λ bytes said. ⊥; faulty = λ bytes fault. ⊥; stops = never; answers = λ said yes text. ⊥ }
 
 abbrev pub meaning_of : (command : Command) → Meaning (Said command)
 meaning_of Reduce = reduce_meaning
@@ -109,5 +90,5 @@ meaning_of Meet = pair_meaning pair.Meet
 meaning_of (Forget var) = forget_meaning var.now
 meaning_of (Trace turns) = trace_meaning turns
 meaning_of (Analyze mode delay narrow) = analyze_meaning (mode_of mode) delay narrow
-meaning_of Check = unbuilt
+meaning_of Check = check_meaning
 meaning_of (Sample seed vars rows) = sample_meaning seed vars rows

@@ -3,10 +3,11 @@ ghost use Rattle.std.specs.Prelude.{◌≡◌, ◌≤◌, false, [], ◌^◌, le
 ghost use Rattle.trop_words.specs.declared.command.Command.{Command};
 ghost use Rattle.trop_words.specs.declared.command.Command.TheVariants.{Int};
 ghost use Rattle.tplib_reply.specs.Meaning.{IsReply, IsRefused};
-ghost use Rattle.tplib_cmd.specs.Commands.{IsBuilt, IsInRange, reads, meaning_of};
+ghost use Rattle.tplib_cmd.specs.Commands.{IsInRange, reads, meaning_of};
 
 use std::alloc::Global;
 use tplib_analyze::analyze_reply;
+use tplib_check::check_reply;
 use tplib_cones::{ext_reply, reduce_reply};
 use tplib_lean::lean_reply;
 use tplib_poly::{PairCommand, forget_reply, int_reply, pair_reply, sample_reply};
@@ -17,7 +18,6 @@ use trop_words::Command;
 
 // The answer of the command to the bytes of its input.
 pub(crate) fn answer(alloc: Global, command: Command<'_>, bytes: &[u8]) -> Result<Reply, Refusal>
-    requires built { IsBuilt command }
     requires range { IsInRange command }
     requires input { reads command ≡ false → bytes.now ≡ [] }
     requires short { length bytes.now ≤ 2 ^ 31 }
@@ -41,7 +41,7 @@ pub(crate) fn answer(alloc: Global, command: Command<'_>, bytes: &[u8]) -> Resul
             delay,
             narrow,
         } => analyze_reply(alloc, mode, delay, narrow, bytes),
-        Command::Check => unreachable!(),
+        Command::Check => check_reply(alloc, bytes),
     }
 }
 

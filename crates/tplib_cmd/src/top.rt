@@ -2,7 +2,7 @@
 ghost use Rattle.std.specs.Prelude.{◌≡◌, List, ℕ, map, string_bytes};
 ghost use Rattle.trop_io.specs.Faults.{Rose};
 ghost use Rattle.trop_words.specs.declared.command.Command.{Command};
-ghost use Rattle.tplib_cmd.specs.Commands.{IsBuilt, IsInRange};
+ghost use Rattle.tplib_cmd.specs.Commands.{IsInRange};
 ghost use Rattle.tplib_cmd.specs.Streams.{IsReported, input_of, output_of};
 ghost use Rattle.tplib_cmd.specs.Ends.{Ends, EndsWith, IsInOrder, IsAnswer, run_of};
 ghost use Rattle.tplib_cmd.specs.Status.{line_of};
@@ -70,7 +70,6 @@ fn run_command<I: Source, O: Sink>(
     input: &mut I,
     out: &mut O,
 ) -> Status
-    requires built { IsBuilt command }
     requires range { IsInRange command }
     ensures ends { Ends command.entry (run_of (input_of I.left I.faults I.calls)
         (output_of O.bytes O.faults) input.old input.new out.old out.new) result }

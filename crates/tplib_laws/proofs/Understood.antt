@@ -26,7 +26,7 @@ int_alone Meet h = absurd (omega (arith, ap first_byte h.spelled))
 int_alone (Forget var) h = absurd (omega (arith, ap first_byte h.spelled.1))
 int_alone (Trace turns) h = absurd (omega (arith, ap first_byte h.spelled.1))
 int_alone (Analyze mode delay narrow) h = absurd (omega (arith, ap first_byte h.spelled.6))
-int_alone Check h = absurd h.built
+int_alone Check h = absurd (omega (arith, ap first_byte h.spelled))
 int_alone (Sample seed vars rows) h = absurd (omega (arith, ap first_byte h.spelled.4))
 
 ext_alone : (command : Command) → IsCommand (codes "ext" ∷ []) command → command ≡ Ext
@@ -42,7 +42,7 @@ ext_alone Meet h = absurd (omega (arith, ap first_byte h.spelled))
 ext_alone (Forget var) h = absurd (omega (arith, ap first_byte h.spelled.1))
 ext_alone (Trace turns) h = absurd (omega (arith, ap first_byte h.spelled.1))
 ext_alone (Analyze mode delay narrow) h = absurd (omega (arith, ap first_byte h.spelled.6))
-ext_alone Check h = absurd h.built
+ext_alone Check h = absurd (omega (arith, ap first_byte h.spelled))
 ext_alone (Sample seed vars rows) h = absurd (omega (arith, ap first_byte h.spelled.4))
 
 -- a run with these words is one of that command
@@ -54,10 +54,10 @@ understood words command is only run status (inr h) = absurd (h.1 command is)
 
 pub int_understood : (run : Run) (status : Status) → EndsWith (codes "int" ∷ []) run status →
     Ends plain_int run status
-int_understood = understood (codes "int" ∷ []) plain_int (record { spelled = refl; built = tt }) int_alone
+int_understood = understood (codes "int" ∷ []) plain_int (record { spelled = refl }) int_alone
 
 pub ext_understood : (run : Run) (status : Status) → EndsWith (codes "ext" ∷ []) run status → Ends Ext run status
-ext_understood = understood (codes "ext" ∷ []) Ext (record { spelled = refl; built = tt }) ext_alone
+ext_understood = understood (codes "ext" ∷ []) Ext (record { spelled = refl }) ext_alone
 
 check_alone : (command : Command) → IsCommand (codes "check" ∷ []) command → command ≡ Check
 check_alone Check h = refl
@@ -76,4 +76,4 @@ check_alone (Analyze mode delay narrow) h = absurd (omega (arith, ap first_byte 
 check_alone (Sample seed vars rows) h = absurd (omega (arith, ap first_byte h.spelled.4))
 
 pub check_understood : (run : Run) (status : Status) → EndsWith (codes "check" ∷ []) run status → Ends Check run status
-check_understood = understood (codes "check" ∷ []) Check (record { spelled = refl; built = tt }) check_alone
+check_understood = understood (codes "check" ∷ []) Check (record { spelled = refl }) check_alone

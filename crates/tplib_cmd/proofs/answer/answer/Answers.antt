@@ -123,6 +123,16 @@ analyze_reply-requires-clause-delay c = (subst IsInRange c.in-Analyze.is c.requi
 pub analyze_reply-requires-clause-narrow : goal.analyze_reply-requires-clause-narrow
 analyze_reply-requires-clause-narrow c = (subst IsInRange c.in-Analyze.is c.requires.range).1
 
+pub returns-in-Check-clause-reply : goal.returns-in-Check-clause-reply
+returns-in-Check-clause-reply c =
+    subst (λ command. IfOk c.check_reply.result (IsReply (meaning_of command) c.args.bytes.now))
+    (sym c.in-Check.is) c.check_reply.ensures.reply
+
+pub returns-in-Check-clause-refused : goal.returns-in-Check-clause-refused
+returns-in-Check-clause-refused c =
+    subst (λ command. IfErr c.check_reply.result (IsRefused (meaning_of command) c.args.bytes.now))
+    (sym c.in-Check.is) c.check_reply.ensures.refused
+
 pub returns-in-Sample-clause-reply : goal.returns-in-Sample-clause-reply
 returns-in-Sample-clause-reply c =
     let none : c.args.bytes.now ≡ [] = c.requires.input (ap reads c.in-Sample.is) in
