@@ -1,0 +1,4 @@
+pub mod NormalLists
+pub mod Lists
+pub mod Loops
+pub mod Wholes

@@ -1,0 +1,26 @@
+use Rattle.std.proofs.Common.{arith, ap, ◌∙◌, length, set}
+use Rattle.trop_theory.specs.Vectors.{row_size}
+use Rattle.trop_row.proofs.Steps.{rows_size-at}
+use Rattle.prog_check.proofs.NormalLists.{normalised_first, normalised_more, normalised_whole}
+use Rattle.prog_check.proofs.moved.cleared_rows.Goals as goal
+
+pub cleared_row-requires-clause-size : goal.cleared_row-requires-clause-size
+cleared_row-requires-clause-size g c =
+    let R = g.S.Scalar.ring in
+    omega (
+      arith,
+      c.requires.size,
+      ap (row_size R) c.row-item.is,
+      rows_size-at R c.args.rows.now c.loop-row.row-index c.row-item.result (omega arith),
+    )
+
+pub loop-row-preserved : goal.loop-row-preserved
+loop-row-preserved g c =
+    normalised_more g.met.S.Scalar.ring_laws (λ x. set x c.args.i g.S.Scalar.ring.zero) c.args.rows.now
+    c.loop-row.out.items c.push_normal.new.rows.items c.loop-row.row-index c.row-item.result c.in_ok-cleared_row.field-0
+    c.row-item.is (omega arith) c.in_ok-cleared_row.ensures.value c.loop-row.invariant c.in_ok-push_normal.ensures
+
+pub returns : goal.returns
+returns g c =
+    normalised_whole g.met.S.Scalar.ring_laws (λ x. set x c.args.i g.S.Scalar.ring.zero) c.args.rows.now
+    c.loop-row.out.items c.loop-row.row-index (omega arith) c.loop-row.invariant
