@@ -1,0 +1,4 @@
+pub mod Views
+pub mod Codes
+pub mod Kept
+pub mod Texts
