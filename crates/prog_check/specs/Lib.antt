@@ -1,2 +1,5 @@
 pub mod Limits
 pub mod Firsts
+pub mod Found
+pub mod Views
+pub mod Truths

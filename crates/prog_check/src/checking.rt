@@ -1,0 +1,61 @@
+//! The check of a report.
+ghost use Rattle.std.specs.Prelude.{◌≡◌, ◌↔◌, IsTrue, IfOk};
+ghost use Rattle.cone_reports.specs.Inductive.{IsWhole};
+ghost use Rattle.cone_reports.specs.Verdicts as theory;
+ghost use Rattle.cone_reports.specs.Verdicts.{IsVerdict};
+ghost use Rattle.report_value.specs.Views.{said};
+ghost use Rattle.prog_check.specs.Views.{verdict_of};
+ghost use Rattle.prog_check.specs.Truths.{IsTrueAtVisits};
+
+use crate::edges::first_escape;
+use crate::points::first_failure;
+use crate::verdict::Verdict;
+use crate::verdicts::first_wrong;
+use crate::whole::is_whole;
+use prog_asserts::asserts;
+use report_value::Report;
+use std::alloc::{AllocError, Global};
+use trop_scalar::Numeric;
+
+type NoMemory = AllocError;
+
+// The verdict on the report.
+fn verdict_on<S: Numeric>(alloc: Global, report: &Report<S>) -> Result<Verdict<S>, NoMemory>
+    ensures { IfOk result (λ v. IsVerdict S.ring S.numbering S.REVERSED (said report.now) (verdict_of v)) }
+{
+    if !is_whole_report(alloc, report)? {
+        return Ok(Verdict::NotWhole);
+    }
+    if let Some((edge, row)) = first_escape(alloc, report)? {
+        return Ok(Verdict::Escapes { edge, row });
+    }
+    if let Some((point, index)) = first_failure(report) {
+        return Ok(Verdict::InvFails { point, index });
+    }
+    let list = asserts(alloc, report.program(), report.graph())?;
+    match first_wrong(report, list.as_slice()) {
+        Some(statement) => Ok(Verdict::AssertWrong { statement }),
+        None => Ok(Verdict::Inductive),
+    }
+}
+
+// Whether the cone at point 0 is everything.
+fn is_whole_report<S: Numeric>(alloc: Global, report: &Report<S>) -> Result<bool, NoMemory>
+    ensures { IfOk result (λ whole. IsTrue whole ↔ IsWhole S.ring (said report.now)) }
+{
+    let _keeps = report.passes();
+    is_whole(alloc, &report.part(0).rows)
+}
+
+/// Checks the report, by means of its own: that it is inductive, or the first condition that fails. A report has one
+/// verdict, and what an inductive report says is true at every visit of every run of its program, whoever wrote it.
+pub fn check<S: Numeric>(alloc: Global, report: &Report<S>) -> Result<Verdict<S>, NoMemory>
+    ensures verdict { IfOk result (λ v. IsVerdict S.ring S.numbering S.REVERSED (said report.now) (verdict_of v)) }
+    ensures unique { IfOk result (λ v. (other : theory.Verdict S) → IsVerdict S.ring S.numbering S.REVERSED
+        (said report.now) other → other ≡ verdict_of v) }
+    ensures true_at_visits { IfOk result (λ v. verdict_of v ≡ theory.Inductive
+        → IsTrueAtVisits S.ring S.numbering S.REVERSED (said report.now)) }
+{
+    let _keeps = report.passes();
+    verdict_on(alloc, report)
+}
