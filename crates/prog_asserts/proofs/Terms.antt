@@ -1,5 +1,5 @@
 -- What holds of each term of a program holds of each term of its asserts.
-use Rattle.std.proofs.Common.{◌≡◌, ⊎_elim, ℕ, List, [], ◌∷◌, sym, subst, Contains}
+use Rattle.std.proofs.Common.{⊎_elim, ℕ, List, [], ◌∷◌, sym, subst, Contains}
 use Rattle.std.specs.Prelude.{All}
 use Rattle.std.proofs.lemmas.List.Elements.{Contains-append_cases}
 use Rattle.prog_theory.specs.States.{Term}

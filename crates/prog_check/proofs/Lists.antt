@@ -1,15 +1,14 @@
 -- The lists of operations: how wide they are and how large their numbers.
-use Rattle.std.proofs.Common.{◌≡◌, ◌<◌, ◌≤◌, ◌+◌, ◌-◌, ◌^◌, inl, inr, ⊎_elim, ℕ, zero, suc, Bool, true, false, List, [], ◌∷◌, ◌++◌, Some, length, map, set, get_or, refl, sym, ap, ◌∙◌, subst, arith}
-use Rattle.std.specs.Prelude.{All, Any, IsTrue, ◌↔◌, slice_get}
+use Rattle.std.proofs.Common.{◌≡◌, ◌<◌, ◌≤◌, ◌+◌, ◌-◌, inl, inr, ⊎_elim, ℕ, zero, suc, Bool, true, false, List, [], ◌∷◌, ◌++◌, Some, length, map, set, get_or, refl, sym, ap, ◌∙◌, subst, arith}
+use Rattle.std.specs.Prelude.{All, slice_get}
 use Rattle.std.proofs.lemmas.List.{length-set, length-append}
 use Rattle.std.proofs.lemmas.Option.{get_or_from_slice_get, slice_get_within}
-use Rattle.std.proofs.lemmas.List.Elements.{All-map, All-append, All-cons, All-nil, All-contains}
+use Rattle.std.proofs.lemmas.List.Elements.{All-map, All-append, All-cons, All-nil}
 use Rattle.trop_theory.specs.Semiring.{Semiring, SemiringLaws}
 use Rattle.trop_theory.specs.Vectors.{entry, bottom, row_size, rows_size, AreWide}
 use Rattle.trop_theory.specs.Numbers.{Numbering, NumericLaws}
 use Rattle.trop_theory.specs.Combinations.{IsCombination}
 use Rattle.trop_theory.specs.Inequalities.{Inequality, inequality_size, system_size}
-use Rattle.trop_theory.specs.Sizes.{most_entry}
 use Rattle.trop_row.proofs.Others.{rows_size-append}
 use Rattle.trop_cones.specs.Sets.{assigned}
 use Rattle.trop_cones.proofs.Sizes.{rows_size-each, All-rows_size, row_size-assigned, row_size-cleared, row_size-set, row_size-bottom}
@@ -82,8 +81,11 @@ module _ {V : Type 0} {R : Semiring V} (laws : SemiringLaws R) where
   forgotten_small n i rows front outs m small h e =
       subst (λ l. rows_size R l ≤ m + m) (sym e)
       (rows_size-append R front (unit_row R n i ∷ []) (m + m) (cleared_small i rows front m small h)
-      (omega (arith, row_size-set laws (bottom R n) i R.one (m + m) (row_size-bottom laws n (m + m))
-      (omega (arith, laws.size_one)))))
+      (omega (
+        arith,
+        row_size-set laws (bottom R n) i R.one (m + m) (row_size-bottom laws n (m + m))
+            (omega (arith, laws.size_one)),
+      )))
 
   pub forgotten_few : (n i : ℕ) (rows front outs : List (List V)) → AreNormalised R (map (λ g. set g i R.zero) rows) front
       → outs ≡ front ++ unit_row R n i ∷ [] → length outs ≤ length rows + 1
@@ -135,12 +137,15 @@ module _ {V : Type 0} {R : Semiring V} {N : Numbering V} {reversed : Bool} (laws
       → IsMovedList R N reversed (suc vars) op rows moved → HasPoint R (IsCombination R (suc vars) moved)
       → IsEdgeList R N reversed (suc vars) op rows moved
   kept_by vars op rows moved f w h p =
-      let m = moved_by laws numbers vars op f rows moved w h in
-      (moved, h, inl (
-        ⊎_elim (λ some. some) (λ none. absurd (no_point_from_rows laws numbers vars moved m.wide none p))
-            (finite_decided laws numbers vars moved),
-        refl,
-      ))
+      let m = moved_by laws numbers vars op f rows moved w h in (
+        moved,
+        h,
+        inl (
+          ⊎_elim (λ some. some) (λ none. absurd (no_point_from_rows laws numbers vars moved m.wide none p))
+              (finite_decided laws numbers vars moved),
+          refl,
+        ),
+      )
 
   dropped_by : (vars : ℕ) (op : Op) (rows moved : List (List V)) → FitsOp vars op → AreWide (suc vars) rows
       → IsMovedList R N reversed (suc vars) op rows moved → (HasPoint R (IsCombination R (suc vars) moved) → ⊥)

@@ -1,16 +1,16 @@
 -- What a report keeps, as the loops over its edges, points and asserts need it.
-use Rattle.std.proofs.Common.{◌≡◌, ◌≢◌, ◌<◌, ◌≤◌, ◌+◌, ◌-◌, ◌^◌, ℕ, suc, Bool, List, [], Some, length, map, get_or, refl, sym, ap, ◌∙◌, subst, subst₂, arith, Contains}
+use Rattle.std.proofs.Common.{◌≡◌, ◌≢◌, ◌<◌, ◌≤◌, ◌+◌, ◌-◌, ℕ, Bool, List, Some, length, sym, ap, ◌∙◌, subst, subst₂, arith, Contains}
 use Rattle.std.specs.Prelude.{All, slice_get, true, IsTrue, ◌↔◌}
 use Rattle.std.proofs.lemmas.Option.{get_or_from_slice_get}
 use Rattle.std.proofs.lemmas.List.Elements.{All-contains}
 use Rattle.trop_theory.specs.Semiring.{Semiring, SemiringLaws}
-use Rattle.trop_theory.specs.Vectors.{entry, bottom, AreWide}
+use Rattle.trop_theory.specs.Vectors.{entry, bottom}
 use Rattle.trop_theory.specs.Normal.{IsNormal}
 use Rattle.trop_theory.specs.Numbers.{Numbering, NumericLaws}
 use Rattle.trop_theory.specs.Combinations.{IsCombination}
 use Rattle.trop_theory.specs.Inequalities.{IsValidOn}
 use Rattle.trop_theory.proofs.Rows.{entry-bottom}
-use Rattle.prog_theory.specs.Edges.{Edge, Op}
+use Rattle.prog_theory.specs.Edges.{Edge}
 use Rattle.prog_theory.specs.Each.{EachOp}
 use Rattle.prog_theory.specs.Fits.{FitsOp}
 use Rattle.prog_theory.specs.Within.{IsNumberWithin}
@@ -24,7 +24,7 @@ use Rattle.cone_reports.specs.Readings.{IsProvenOn}
 use Rattle.cone_reports.specs.Asserts.{Assertion}
 use Rattle.cone_reports.specs.Reports.{Part, Report, part_at, no_part, coordinates, cone_at}
 use Rattle.cone_reports.specs.Inductive.{StaysAlong, IsValidAt, IsRight}
-use Rattle.cone_reports.specs.Verdicts.{IsFirstWithout, Leaves}
+use Rattle.cone_reports.specs.Verdicts.{Leaves}
 use Rattle.cone_reports.proofs.Checks.{get_contains}
 use Rattle.cone_reports.proofs.EdgeLists.{image_within_by_list}
 use Rattle.report_value.specs.Views.{ReportOver, said}

@@ -1,13 +1,13 @@
 -- The loops over the edges, the points and the asserts of a report.
-use Rattle.std.proofs.Common.{◌≡◌, ◌<◌, ◌≤◌, ◌+◌, ⊎_elim, ℕ, zero, suc, Bool, true, false, List, [], ◌∷◌, ◌++◌, Some, length, map, take, get_or, refl, sym, ap, ◌∙◌, subst, arith, Contains}
-use Rattle.std.specs.Prelude.{All, slice_get}
+use Rattle.std.proofs.Common.{◌≡◌, ◌<◌, ◌≤◌, ◌+◌, ⊎_elim, ℕ, zero, suc, List, [], ◌∷◌, ◌++◌, length, map, take, get_or, refl, sym, ap, ◌∙◌, subst, arith, Contains}
+use Rattle.std.specs.Prelude.{All}
 use Rattle.std.specs.List.{AllZip}
 use Rattle.std.proofs.lemmas.Bool.{cases_lt}
 use Rattle.std.proofs.lemmas.List.{length-map, take_more, take_all, get_or-map, get_or_past, get_or_default}
 use Rattle.std.proofs.lemmas.List.Elements.{Contains-get_or, All-nil}
 use Rattle.trop_theory.specs.Semiring.{Semiring}
-use Rattle.trop_theory.specs.Inequalities.{Inequality, IsValidOn}
-use Rattle.cone_reports.specs.Reports.{Report, Part, part_at, no_part, cone_at}
+use Rattle.trop_theory.specs.Inequalities.{IsValidOn}
+use Rattle.cone_reports.specs.Reports.{Report, part_at, no_part, cone_at}
 use Rattle.cone_reports.specs.Inductive.{IsValidAt}
 use Rattle.cone_reports.specs.Verdicts.{IsFirstWithout}
 use Rattle.prog_check.specs.Firsts.{IsFirstAt}

@@ -1,5 +1,5 @@
 -- What an inductive report says is true at every visit of every run.
-use Rattle.std.specs.Prelude.{◌≡◌, ℕ, Bool, true, All, Some, length, slice_get}
+use Rattle.std.specs.Prelude.{◌≡◌, ℕ, Bool, true, All, Some, slice_get}
 use Rattle.trop_theory.specs.Semiring.{Semiring}
 use Rattle.trop_theory.specs.Numbers.{Numbering}
 use Rattle.trop_theory.specs.Inequalities.{IsTrueAt}

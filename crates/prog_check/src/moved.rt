@@ -144,7 +144,14 @@ fn assigned_list<S: Numeric>(
     ensures size { IfOk result (λ out. rows_size S.ring out.rows ≤ most_entry) }
 {
     let n = gens.n();
-    let rows = assigned_rows(alloc, gens.as_slice(), n, var, value.coord, number_of(value))?;
+    let rows = assigned_rows(
+        alloc,
+        gens.as_slice(),
+        n,
+        var,
+        value.coord,
+        number_of(value),
+    )?;
     Ok(Gens::from_rows(n, rows))
 }
 

@@ -1,4 +1,4 @@
-use Rattle.std.proofs.Common.{◌≡◌, sym, subst, subst₂, true≢false, ◌∙◌}
+use Rattle.std.proofs.Common.{sym, subst, true≢false, ◌∙◌}
 use Rattle.std.specs.Prelude.{◌↔◌, IsTrue}
 use Rattle.trop_theory.specs.Combinations.{IsCombination}
 use Rattle.prog_graph.specs.Views.{op_of}

@@ -1,7 +1,6 @@
 use Rattle.std.proofs.Common.{◌≡◌, ap, sym, ◌∙◌, arith}
-use Rattle.prog_theory.specs.Edges.{Edge}
-use Rattle.prog_graph.specs.Views.{edge_of, op_of}
-use Rattle.cone_reports.specs.Reports.{Part, part_at, coordinates}
+use Rattle.prog_graph.specs.Views.{edge_of}
+use Rattle.cone_reports.specs.Reports.{Part, part_at}
 use Rattle.cone_reports.specs.Verdicts.{Leaves}
 use Rattle.report_value.specs.Views.{part_of, said}
 use Rattle.prog_check.specs.Firsts.{IsOutside}

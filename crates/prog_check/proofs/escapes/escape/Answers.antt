@@ -1,4 +1,4 @@
-use Rattle.std.proofs.Common.{◌≡◌, sym, subst, List}
+use Rattle.std.proofs.Common.{sym, subst}
 use Rattle.std.specs.Prelude.{All, IfOk, MatchOption}
 use Rattle.trop_theory.specs.Vectors.{AreWide}
 use Rattle.trop_theory.specs.Combinations.{IsCombination}

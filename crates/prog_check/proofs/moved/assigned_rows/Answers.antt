@@ -1,8 +1,8 @@
-use Rattle.std.proofs.Common.{arith, ap, ◌∙◌, length}
+use Rattle.std.proofs.Common.{arith, ap}
 use Rattle.trop_theory.specs.Vectors.{row_size}
 use Rattle.trop_row.proofs.Steps.{rows_size-at}
 use Rattle.trop_cones.specs.Sets.{assigned}
-use Rattle.prog_check.proofs.NormalLists.{normalised_first, normalised_more, normalised_whole}
+use Rattle.prog_check.proofs.NormalLists.{normalised_more, normalised_whole}
 use Rattle.prog_check.proofs.moved.assigned_rows.Goals as goal
 
 pub assigned_row-requires-clause-size : goal.assigned_row-requires-clause-size

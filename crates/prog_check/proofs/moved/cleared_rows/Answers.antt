@@ -1,7 +1,7 @@
-use Rattle.std.proofs.Common.{arith, ap, ◌∙◌, length, set}
+use Rattle.std.proofs.Common.{arith, ap, set}
 use Rattle.trop_theory.specs.Vectors.{row_size}
 use Rattle.trop_row.proofs.Steps.{rows_size-at}
-use Rattle.prog_check.proofs.NormalLists.{normalised_first, normalised_more, normalised_whole}
+use Rattle.prog_check.proofs.NormalLists.{normalised_more, normalised_whole}
 use Rattle.prog_check.proofs.moved.cleared_rows.Goals as goal
 
 pub cleared_row-requires-clause-size : goal.cleared_row-requires-clause-size

@@ -1,5 +1,5 @@
-use Rattle.std.proofs.Common.{◌≡◌, ◌≤◌, ◌^◌, List, ap, ◌∙◌, subst, sym, arith, true≢false}
-use Rattle.std.specs.Prelude.{◌↔◌, IsTrue, true, false}
+use Rattle.std.proofs.Common.{◌^◌, List, ap, subst, sym, arith}
+use Rattle.std.specs.Prelude.{◌↔◌, IsTrue, true}
 use Rattle.trop_theory.specs.Vectors.{row_size, AreWide}
 use Rattle.trop_theory.specs.Combinations.{IsCombination}
 use Rattle.trop_cones.specs.Sets.{IsVector}
