@@ -1,5 +1,5 @@
 -- What a report keeps, as the loops over its edges, points and asserts need it.
-use Rattle.std.proofs.Common.{◌≡◌, ◌≢◌, ◌<◌, ◌≤◌, ◌+◌, ◌-◌, ℕ, Bool, List, Some, length, sym, ap, ◌∙◌, subst, subst₂, arith, Contains}
+use Rattle.std.proofs.Common.{◌≡◌, ◌≢◌, ◌<◌, ◌≤◌, ◌+◌, ◌-◌, ℕ, Bool, List, Some, length, map, get_or, sym, ap, ◌∙◌, subst, subst₂, arith, Contains}
 use Rattle.std.specs.Prelude.{All, slice_get, true, IsTrue, ◌↔◌}
 use Rattle.std.proofs.lemmas.Option.{get_or_from_slice_get}
 use Rattle.std.proofs.lemmas.List.Elements.{All-contains}
@@ -30,6 +30,10 @@ use Rattle.cone_reports.proofs.EdgeLists.{image_within_by_list}
 use Rattle.report_value.specs.Views.{ReportOver, said}
 use Rattle.report_value.specs.Kept.{IsKept}
 use Rattle.report_value.proofs.Within.{HasWideRows-kept}
+use Rattle.prog_graph.specs.declared.parts.Edge.{Edge as CodeEdge}
+use Rattle.prog_graph.specs.Views.{edge_of}
+use Rattle.prog_check.specs.Found.{EscapesAt}
+use Rattle.prog_check.proofs.Steps.{mapped_in, mapped_first}
 use Rattle.prog_check.specs.Limits.{most_add}
 use Rattle.prog_check.specs.Firsts.{IsOutside, IsFirstAt}
 
@@ -140,3 +144,19 @@ module _ {V : Type 0} {R : Semiring V} {N : Numbering V} (r : ReportOver V) (kep
         (part_at (said r) e.from).rows leaves.list (part_at (said r) e.to).rows (HasWideRows-kept R N r kept e.from) (HasWideRows-kept R N r kept e.to) leaves.is_list in
         leaves.first.lacks (All-contains (cone_at R (said r) e.to) leaves.list row (inside.0 stays)
         (get_contains leaves.list leaves.place row leaves.first.at))
+
+    -- the edge at place k of the list leads out, and none before it
+    pub escapes_at : (xs : List CodeEdge) → map edge_of xs ≡ edges (nameless r.program) → (k : ℕ) (d : CodeEdge)
+        → k < length xs
+        → ((j : ℕ) (d : CodeEdge) → j < k → StaysAlong R N reversed (said r) (edge_of (get_or xs j d)))
+        → (row : List V) → Leaves R N reversed (said r) (edge_of (get_or xs k d)) row
+        → EscapesAt R N reversed (said r) k row
+    escapes_at xs same k d l before row leaves =
+        let e = edge_of (get_or xs k d) in
+        let all = edges (nameless r.program) in
+        record {
+          edge = e;
+          first = mapped_first edge_of xs all same (StaysAlong R N reversed (said r)) k d l before
+              (leaves_fails e (mapped_in edge_of xs all same k d l) row leaves);
+          leaves = leaves;
+        }

@@ -23,7 +23,7 @@ each_mapped f (x ∷ xs) P y (suc k, l, e) h =
     each_mapped f xs P y (k, omega arith, e) (λ j d m. h (suc j) d (omega arith))
 
 module _ {X Y : Type 0} (f : X → Y) (xs : List X) (ys : List Y) (same : map f xs ≡ ys) where
-  at_map : (k : ℕ) (d : X) (e : Y) → k < length xs → get_or ys k e ≡ f (get_or xs k d)
+  pub at_map : (k : ℕ) (d : X) (e : Y) → k < length xs → get_or ys k e ≡ f (get_or xs k d)
   at_map k d e l = ap (λ zs. get_or zs k e) (sym same) ∙ get_or-map f xs k d e l
 
   same_length : length ys ≡ length xs
