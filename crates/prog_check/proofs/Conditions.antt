@@ -46,10 +46,10 @@ module _ {V : Type 0} (R : Semiring V) (N : Numbering V) (reversed : Bool) (repo
     whole = whole;
     stays = stays;
     before = f.before;
-    place = f.place;
-    number = f.number;
-    inequality = f.inequality;
-    first = f.first;
+    place = f.here.place;
+    number = f.here.number;
+    inequality = f.here.inequality;
+    first = f.here.first;
   }
 
   pub wrong_is : IsWhole R report → Stays R N reversed report → ((p : ℕ) → IsValidAt R report p) → (k : ℕ)

@@ -6,7 +6,7 @@ use Rattle.std.proofs.lemmas.List.{length-take-le, get_or-take, get_or_default}
 use Rattle.std.proofs.lemmas.Option.{get_or_from_slice_get, slice_get_within}
 use Rattle.cone_reports.specs.Verdicts.{IsFirstWithout}
 
-get_at : {X : Type 0} (xs : List X) (k : ℕ) (x : X) → x ≡ get_or xs k x → k < length xs → slice_get xs k ≡ Some x
+pub get_at : {X : Type 0} (xs : List X) (k : ℕ) (x : X) → x ≡ get_or xs k x → k < length xs → slice_get xs k ≡ Some x
 get_at [] k x e l = absurd (omega arith)
 get_at (y ∷ xs) zero x e l = ap Some (sym e)
 get_at (y ∷ xs) (suc k) x e l = get_at xs k x e (omega arith)
@@ -57,3 +57,10 @@ pub found_moved : {X E A A' : Type 0} (B B' : X → Type 0) (result : Result (Op
 found_moved B B' (Ok None) f g h = f h
 found_moved B B' (Ok (Some x)) f g h = g x h
 found_moved B B' (Err e) f g h = h
+
+-- what a search that found x, or nothing, says
+pub some_of : {X : Type 0} (A : Type 0) (B : X → Type 0) (o : Option X) (x : X) → o ≡ Some x → MatchOption o A B → B x
+some_of A B o x e h = subst (λ p. MatchOption p A B) e h
+
+pub none_of : {X : Type 0} (A : Type 0) (B : X → Type 0) (o : Option X) → o ≡ None → MatchOption o A B → A
+none_of A B o e h = subst (λ p. MatchOption p A B) e h

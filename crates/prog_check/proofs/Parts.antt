@@ -1,6 +1,6 @@
 -- What a report keeps, as the loops over its edges, points and asserts need it.
-use Rattle.std.proofs.Common.{◌≡◌, ◌≢◌, ◌<◌, ◌≤◌, ◌+◌, ◌-◌, ℕ, Bool, List, Some, length, map, get_or, sym, ap, ◌∙◌, subst, subst₂, arith, Contains}
-use Rattle.std.specs.Prelude.{All, slice_get, true, IsTrue, ◌↔◌}
+use Rattle.std.proofs.Common.{◌≡◌, ◌≢◌, ◌<◌, ◌≤◌, ◌+◌, ◌-◌, ℕ, Bool, Option, List, Some, length, map, get_or, sym, ap, ◌∙◌, subst, subst₂, arith, Contains}
+use Rattle.std.specs.Prelude.{All, slice_get, true, IsTrue, ◌↔◌, MatchOption}
 use Rattle.std.proofs.lemmas.Option.{get_or_from_slice_get}
 use Rattle.std.proofs.lemmas.List.Elements.{All-contains}
 use Rattle.trop_theory.specs.Semiring.{Semiring, SemiringLaws}
@@ -33,6 +33,7 @@ use Rattle.report_value.proofs.Within.{HasWideRows-kept}
 use Rattle.prog_graph.specs.declared.parts.Edge.{Edge as CodeEdge}
 use Rattle.prog_graph.specs.Views.{edge_of}
 use Rattle.prog_check.specs.Found.{EscapesAt}
+use Rattle.prog_check.proofs.Loops.{some_of}
 use Rattle.prog_check.proofs.Steps.{mapped_in, mapped_first}
 use Rattle.prog_check.specs.Limits.{most_add}
 use Rattle.prog_check.specs.Firsts.{IsOutside, IsFirstAt}
@@ -146,7 +147,7 @@ module _ {V : Type 0} {R : Semiring V} {N : Numbering V} (r : ReportOver V) (kep
         (get_contains leaves.list leaves.place row leaves.first.at))
 
     -- the edge at place k of the list leads out, and none before it
-    pub escapes_at : (xs : List CodeEdge) → map edge_of xs ≡ edges (nameless r.program) → (k : ℕ) (d : CodeEdge)
+    escapes_at : (xs : List CodeEdge) → map edge_of xs ≡ edges (nameless r.program) → (k : ℕ) (d : CodeEdge)
         → k < length xs
         → ((j : ℕ) (d : CodeEdge) → j < k → StaysAlong R N reversed (said r) (edge_of (get_or xs j d)))
         → (row : List V) → Leaves R N reversed (said r) (edge_of (get_or xs k d)) row
@@ -160,3 +161,14 @@ module _ {V : Type 0} {R : Semiring V} {N : Numbering V} (r : ReportOver V) (kep
               (leaves_fails e (mapped_in edge_of xs all same k d l) row leaves);
           leaves = leaves;
         }
+
+    pub escapes_from : (xs : List CodeEdge) → map edge_of xs ≡ edges (nameless r.program) → (k : ℕ) (d : CodeEdge)
+        → k < length xs
+        → ((j : ℕ) (d : CodeEdge) → j < k → StaysAlong R N reversed (said r) (edge_of (get_or xs j d)))
+        → (o : Option (List V)) → (row : List V) → o ≡ Some row
+        → MatchOption o (StaysAlong R N reversed (said r) (edge_of (get_or xs k d)))
+        (Leaves R N reversed (said r) (edge_of (get_or xs k d)))
+        → EscapesAt R N reversed (said r) k row
+    escapes_from xs same k d l before o row is h =
+        escapes_at xs same k d l before row (some_of (StaysAlong R N reversed (said r) (edge_of (get_or xs k d)))
+        (Leaves R N reversed (said r) (edge_of (get_or xs k d))) o row is h)

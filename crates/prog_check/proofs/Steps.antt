@@ -3,7 +3,7 @@ use Rattle.std.proofs.Common.{◌≡◌, ◌<◌, ◌≤◌, ◌+◌, ⊎_elim, 
 use Rattle.std.specs.Prelude.{All}
 use Rattle.std.specs.List.{AllZip}
 use Rattle.std.proofs.lemmas.Bool.{cases_lt}
-use Rattle.std.proofs.lemmas.List.{length-map, take_more, take_all, get_or-map, get_or_past, get_or_default}
+use Rattle.std.proofs.lemmas.List.{length-map, take_more, get_or-map, get_or_past, get_or_default}
 use Rattle.std.proofs.lemmas.List.Elements.{Contains-get_or, All-nil}
 use Rattle.trop_theory.specs.Semiring.{Semiring}
 use Rattle.trop_theory.specs.Inequalities.{IsValidOn}
@@ -11,7 +11,7 @@ use Rattle.cone_reports.specs.Reports.{Report, part_at, no_part, cone_at}
 use Rattle.cone_reports.specs.Inductive.{IsValidAt}
 use Rattle.cone_reports.specs.Verdicts.{IsFirstWithout}
 use Rattle.prog_check.specs.Firsts.{IsFirstAt}
-use Rattle.prog_check.specs.Found.{FailsAt}
+use Rattle.prog_check.specs.Found.{IsFailureAt, FailsAt}
 use Rattle.prog_check.proofs.NormalLists.{zip-push}
 use Rattle.prog_check.proofs.Loops.{first_at}
 
@@ -75,9 +75,12 @@ module _ {V : Type 0} (R : Semiring V) (report : Report V) where
       (sym (get_or_past report.parts q no_part (omega arith))) (All-nil (IsValidOn R (cone_at R report q))))
       (cases_lt q p)
 
-  pub fails_at : (p k : ℕ) → ((q : ℕ) → q < p → IsValidAt R report q)
-      → IsFirstAt (IsValidOn R (cone_at R report p)) (part_at report p).printed k → FailsAt R report p (k + 1)
-  fails_at p k before h = record { before = before; place = k; number = refl; inequality = h.0; first = h.1 }
+  pub failure_number : (p k : ℕ) → IsFirstAt (IsValidOn R (cone_at R report p)) (part_at report p).printed k
+      → IsFailureAt R report p (k + 1)
+  failure_number p k h = record { place = k; number = refl; inequality = h.0; first = h.1 }
+
+  pub fails_at : (p i : ℕ) → ((q : ℕ) → q < p → IsValidAt R report q) → IsFailureAt R report p i → FailsAt R report p i
+  fails_at p i before h = record { before = before; here = h }
 
 -- ---- pairs of two lists
 pub zip_more : {X Y : Type 0} (Q : X → Y → Type 0) (xs : List X) (ys : List Y) (k : ℕ) (x : X) (y : Y)
@@ -87,8 +90,3 @@ zip_more Q xs ys k x y l m e f h q =
     subst (λ as'. AllZip Q as' (take (k + 1) ys)) (sym (take_more xs k x l ∙ ap (λ v. take k xs ++ v ∷ []) e))
     (subst (λ bs. AllZip Q (take k xs ++ x ∷ []) bs) (sym (take_more ys k y m ∙ ap (λ v. take k ys ++ v ∷ []) f))
     (zip-push Q (take k xs) (take k ys) x y h q))
-
-pub zip_all : {X Y : Type 0} (Q : X → Y → Type 0) (xs : List X) (ys : List Y) (k : ℕ) → length xs ≤ k → length ys ≤ k
-    → AllZip Q (take k xs) (take k ys) → AllZip Q xs ys
-zip_all Q xs ys k l m h =
-    subst (λ as'. AllZip Q as' ys) (take_all k xs l) (subst (λ bs. AllZip Q (take k xs) bs) (take_all k ys m) h)

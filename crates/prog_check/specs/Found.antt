@@ -18,13 +18,17 @@ pub record EscapesAt {V : Type 0} (R : Semiring V) (N : Numbering V) (reversed :
   pub first : IsFirstWithout (StaysAlong R N reversed report) (edges report.program) k edge
   pub leaves : Leaves R N reversed report edge row
 
--- the printed inequality of this number, from 1, at this point is the first that isn't valid
-pub record FailsAt {V : Type 0} (R : Semiring V) (report : Report V) (p i : ℕ) : Type 0 where
-  pub before : (q : ℕ) → q < p → IsValidAt R report q
+-- of the printed inequalities of the point the one of this number, from 1, is the first that isn't valid
+pub record IsFailureAt {V : Type 0} (R : Semiring V) (report : Report V) (p i : ℕ) : Type 0 where
   pub place : ℕ
   pub number : i ≡ place + 1
   pub inequality : Inequality V
   pub first : IsFirstWithout (IsValidOn R (cone_at R report p)) (part_at report p).printed place inequality
+
+-- and at no point before is there one
+pub record FailsAt {V : Type 0} (R : Semiring V) (report : Report V) (p i : ℕ) : Type 0 where
+  pub before : (q : ℕ) → q < p → IsValidAt R report q
+  pub here : IsFailureAt R report p i
 
 -- the verdict on the assert of this number is the first that is wrong
 pub record WrongAt {V : Type 0} (R : Semiring V) (N : Numbering V) (reversed : Bool) (report : Report V)

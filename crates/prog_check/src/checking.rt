@@ -1,6 +1,6 @@
 //! The check of a report.
-ghost use Rattle.std.specs.Prelude.{◌≡◌, ◌↔◌, IsTrue, IfOk};
-ghost use Rattle.cone_reports.specs.Inductive.{IsWhole};
+ghost use Rattle.std.specs.Prelude.{◌≡◌, ◌↔◌, ℕ, IsTrue, IfOk};
+ghost use Rattle.cone_reports.specs.Inductive.{IsWhole, Stays, IsValidAt};
 ghost use Rattle.cone_reports.specs.Verdicts as theory;
 ghost use Rattle.cone_reports.specs.Verdicts.{IsVerdict};
 ghost use Rattle.report_value.specs.Views.{said};
@@ -19,19 +19,21 @@ use trop_scalar::Numeric;
 
 type NoMemory = AllocError;
 
-// The verdict on the report.
-fn verdict_on<S: Numeric>(alloc: Global, report: &Report<S>) -> Result<Verdict<S>, NoMemory>
+// Whether the cone at point 0 is everything.
+fn is_whole_report<S: Numeric>(alloc: Global, report: &Report<S>) -> Result<bool, NoMemory>
+    ensures { IfOk result (λ whole. IsTrue whole ↔ IsWhole S.ring (said report.now)) }
+{
+    let _keeps = report.passes();
+    is_whole(alloc, &report.part(0).rows)
+}
+
+// The verdict where the first three conditions hold.
+fn verdict_on_asserts<S: Numeric>(alloc: Global, report: &Report<S>) -> Result<Verdict<S>, NoMemory>
+    requires whole { IsWhole S.ring (said report.now) }
+    requires stays { Stays S.ring S.numbering S.REVERSED (said report.now) }
+    requires valid { (p : ℕ) → IsValidAt S.ring (said report.now) p }
     ensures { IfOk result (λ v. IsVerdict S.ring S.numbering S.REVERSED (said report.now) (verdict_of v)) }
 {
-    if !is_whole_report(alloc, report)? {
-        return Ok(Verdict::NotWhole);
-    }
-    if let Some((edge, row)) = first_escape(alloc, report)? {
-        return Ok(Verdict::Escapes { edge, row });
-    }
-    if let Some((point, index)) = first_failure(report) {
-        return Ok(Verdict::InvFails { point, index });
-    }
     let list = asserts(alloc, report.program(), report.graph())?;
     match first_wrong(report, list.as_slice()) {
         Some(statement) => Ok(Verdict::AssertWrong { statement }),
@@ -39,12 +41,46 @@ fn verdict_on<S: Numeric>(alloc: Global, report: &Report<S>) -> Result<Verdict<S
     }
 }
 
-// Whether the cone at point 0 is everything.
-fn is_whole_report<S: Numeric>(alloc: Global, report: &Report<S>) -> Result<bool, NoMemory>
-    ensures { IfOk result (λ whole. IsTrue whole ↔ IsWhole S.ring (said report.now)) }
+// The verdict where the first two hold.
+fn verdict_on_points<S: Numeric>(alloc: Global, report: &Report<S>) -> Result<Verdict<S>, NoMemory>
+    requires whole { IsWhole S.ring (said report.now) }
+    requires stays { Stays S.ring S.numbering S.REVERSED (said report.now) }
+    ensures { IfOk result (λ v. IsVerdict S.ring S.numbering S.REVERSED (said report.now) (verdict_of v)) }
 {
-    let _keeps = report.passes();
-    is_whole(alloc, &report.part(0).rows)
+    match first_failure(report) {
+        Some(failure) => Ok(Verdict::InvFails {
+            point: failure.0,
+            index: failure.1,
+        }),
+        None => verdict_on_asserts(alloc, report),
+    }
+}
+
+// The verdict where the first holds.
+fn verdict_on_edges<S: Numeric>(alloc: Global, report: &Report<S>) -> Result<Verdict<S>, NoMemory>
+    requires whole { IsWhole S.ring (said report.now) }
+    ensures { IfOk result (λ v. IsVerdict S.ring S.numbering S.REVERSED (said report.now) (verdict_of v)) }
+{
+    let found = first_escape(alloc, report)?;
+    match found {
+        Some(escape) => Ok(Verdict::Escapes {
+            edge: escape.0,
+            row: escape.1,
+        }),
+        None => verdict_on_points(alloc, report),
+    }
+}
+
+// The verdict on the report.
+fn verdict_on<S: Numeric>(alloc: Global, report: &Report<S>) -> Result<Verdict<S>, NoMemory>
+    ensures { IfOk result (λ v. IsVerdict S.ring S.numbering S.REVERSED (said report.now) (verdict_of v)) }
+{
+    let whole = is_whole_report(alloc, report)?;
+    if whole {
+        verdict_on_edges(alloc, report)
+    } else {
+        Ok(Verdict::NotWhole)
+    }
 }
 
 /// Checks the report, by means of its own: that it is inductive, or the first condition that fails. A report has one

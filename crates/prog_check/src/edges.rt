@@ -45,7 +45,8 @@ pub(crate) fn first_escape<S: Numeric>(
     let edges = report.graph().edges().as_slice();
     let _keeps = report.passes();
     for (k, edge) in edges.iter().enumerate() {
-        if let Some(row) = escape_along(alloc, report, edge)? {
+        let found = escape_along(alloc, report, edge)?;
+        if let Some(row) = found {
             return Ok(Some((k as u32, row)));
         }
     }

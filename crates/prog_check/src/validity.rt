@@ -1,5 +1,5 @@
 //! Whether the printed inequalities of a point are valid on its cone.
-ghost use Rattle.std.specs.Prelude.{◌≡◌, ◌+◌, ◌≤◌, ◌<◌, ◌↔◌, ◌^◌, ℕ, All, IsTrue, MatchOption, length};
+ghost use Rattle.std.specs.Prelude.{◌≡◌, ◌+◌, ◌≤◌, ◌<◌, ◌↔◌, ◌^◌, ℕ, All, IsTrue, IfSome, MatchOption, length};
 ghost use Rattle.trop_theory.specs.Vectors.{rows_size, AreWide};
 ghost use Rattle.trop_theory.specs.Inequalities.{IsIn, IsTrueAt, IsValidOn, inequality_size, system_size};
 ghost use Rattle.trop_theory.specs.Combinations.{IsCombination};
@@ -39,9 +39,10 @@ pub(crate) fn first_invalid<S: Scalar>(list: &System<S>, rows: &Gens<S>) -> Opti
     requires width { list.now.n ≡ rows.now.n }
     requires size { rows_size S.ring rows.now.rows ≤ most_row }
     requires numbers { system_size S.ring list.now.inequalities ≤ most_coefficient }
-    ensures { MatchOption result
+    ensures first { MatchOption result
         (All (IsValidOn S.ring (IsCombination S.ring rows.now.n rows.now.rows)) list.now.inequalities)
         (IsFirstAt (IsValidOn S.ring (IsCombination S.ring rows.now.n rows.now.rows)) list.now.inequalities) }
+    ensures within { IfSome result (λ k. k < 2 ^ 31) }
 {
     for k in 0..list.len() {
         if !is_valid(list.get(k), rows) {

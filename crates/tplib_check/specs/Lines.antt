@@ -1,5 +1,5 @@
 -- The line of a verdict.
-use Rattle.std.specs.Prelude.{ℕ, List, ◌++◌, codes, decimal}
+use Rattle.std.specs.Prelude.{ℕ, Bool, true, false, List, ◌++◌, codes, decimal}
 use Rattle.trop_theory.specs.Numbers.{Numbering}
 use Rattle.trop_spelling.specs.declared.ring_kind.RingKind.{RingKind}
 use Rattle.trop_spelling.specs.Printed.{numbers, printed_row}
@@ -22,3 +22,11 @@ verdict_line kind N NotWhole = codes "not whole\n"
 verdict_line kind N (Escapes edge row) = escape_line kind N edge row
 verdict_line kind N (InvFails point index) = failure_line point index
 verdict_line kind N (AssertWrong statement) = wrong_line statement
+
+-- whether it is the verdict that the report is inductive
+abbrev pub says_inductive : {V : Type 0} → Verdict V → Bool
+says_inductive Inductive = true
+says_inductive NotWhole = false
+says_inductive (Escapes edge row) = false
+says_inductive (InvFails point index) = false
+says_inductive (AssertWrong statement) = false

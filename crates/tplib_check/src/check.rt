@@ -1,16 +1,20 @@
 //! The command `check` on the bytes of its input.
 ghost use Rattle.std.specs.Prelude.{◌≡◌, ◌≤◌, ◌^◌, length, IfOk, IfErr};
-ghost use Rattle.report_texts.specs.Modes as modes;
 ghost use Rattle.report_value.specs.Texts.{text_of};
+ghost use Rattle.report_value.specs.Views.{said};
+ghost use Rattle.prog_check.specs.Views.{verdict_of};
 ghost use Rattle.tplib_reply.specs.Meaning.{IsReply, IsRefused};
-ghost use Rattle.tplib_check.specs.Check.{IsCheckAnswer, check_meaning};
+ghost use Rattle.tplib_check.specs.Lines.{says_inductive};
+ghost use Rattle.tplib_check.specs.Check.{IsVerdictReply, IsCheckAnswer, check_meaning};
 
 use crate::verdict_text::verdict_text;
 use prog_check::{Verdict, check};
 use report_reading::read_report;
-use report_value::AnyReport;
+use report_value::{AnyReport, Report};
 use std::alloc::{AllocError, Global};
 use tplib_reply::{Refusal, Reply};
+use trop_scalar::Numeric;
+use trop_spelling::Spelling;
 
 /// Whether the report that the bytes spell, whoever wrote it, is inductive: "yes" and the word `inductive`, or "no" and
 /// the line of the first condition that fails. It is so found by rows and the graph of the program alone.
@@ -52,8 +56,15 @@ fn verdict_reply<S: Numeric + Spelling>(
     })
 }
 
-fn is_inductive<S: Spelling>(verdict: &Verdict<S>) -> bool
-    ensures { IsTrue result ↔ (verdict_of verdict.now ≡ theory.Inductive) }
+// Whether it is the verdict that the report is inductive.
+fn is_inductive<S: Numeric>(verdict: &Verdict<S>) -> bool
+    ensures { result ≡ says_inductive (verdict_of verdict.now) }
 {
-    matches!(verdict, Verdict::Inductive)
+    match verdict {
+        Verdict::Inductive => true,
+        Verdict::NotWhole => false,
+        Verdict::Escapes { .. } => false,
+        Verdict::InvFails { .. } => false,
+        Verdict::AssertWrong { .. } => false,
+    }
 }

@@ -5,7 +5,7 @@ use Rattle.prog_theory.specs.ControlGraphs.{ControlGraph}
 use Rattle.prog_graph.specs.Views.{edge_of}
 use Rattle.cone_reports.specs.Inductive.{StaysAlong}
 use Rattle.report_value.specs.Views.{said}
-use Rattle.prog_check.proofs.Parts.{escapes_at}
+use Rattle.prog_check.proofs.Parts.{escapes_from}
 use Rattle.prog_check.proofs.Steps.{mapped_in, mapped_all}
 use Rattle.prog_check.proofs.edges.first_escape.Goals as goal
 
@@ -21,8 +21,8 @@ returns-in-Some g c =
     let P = nameless c.args.report.now.program in
     let same : map edge_of c.as_slice-edges.result.now ≡ edges P =
     c.as_slice-edges.ensures ∙ c.edges.ensures.value ∙ ap (λ (G : ControlGraph). G.edges) c.graph.ensures.value in
-    escapes_at c.args.report.now c.passes-keeps.ensures.keeps g.met.S.Scalar.ring_laws g.met.S.Numeric.numeric_laws
-    c.as_slice-edges.result.now same c.loop-k.k _ (omega arith) c.loop-k.invariant c.in-Some.row c.in-Some.ensures
+    escapes_from c.args.report.now c.passes-keeps.ensures.keeps g.met.S.Scalar.ring_laws g.met.S.Numeric.numeric_laws
+    c.as_slice-edges.result.now same c.loop-k.k _ (omega arith) c.loop-k.invariant c.in_ok-found.found c.in-Some.row c.in-Some.is c.in_ok-found.ensures
 
 pub returns : goal.returns
 returns g c =

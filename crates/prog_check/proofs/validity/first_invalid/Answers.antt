@@ -14,8 +14,8 @@ is_valid-requires-clause-sizes g c =
       c.requires.size,
     )
 
-pub returns-then-not-is_valid : goal.returns-then-not-is_valid
-returns-then-not-is_valid g c = (
+pub returns-then-not-is_valid-clause-first : goal.returns-then-not-is_valid-clause-first
+returns-then-not-is_valid-clause-first g c = (
   c.get.result.now,
   first_read (IsValidOn g.S.Scalar.ring (IsCombination g.S.Scalar.ring c.args.rows.now.n c.args.rows.now.rows))
       c.args.list.now.inequalities c.loop-k.k c.get.result.now c.get.ensures.value c.loop-k.invariant
@@ -28,7 +28,7 @@ loop-k-preserved g c =
     c.args.list.now.inequalities c.loop-k.k c.get.result.now c.get.ensures.value c.loop-k.invariant
     (c.is_valid.ensures.0 c.if-not-is_valid.false)
 
-pub returns : goal.returns
-returns g c =
+pub returns-clause-first : goal.returns-clause-first
+returns-clause-first g c =
     all_have (IsValidOn g.S.Scalar.ring (IsCombination g.S.Scalar.ring c.args.rows.now.n c.args.rows.now.rows))
-    c.args.list.now.inequalities c.loop-k.k (omega (arith, c.len.ensures.len)) c.loop-k.invariant
+    c.args.list.now.inequalities c.loop-k.k (omega (arith, c.len-k-end.ensures.len)) c.loop-k.invariant
