@@ -1,14 +1,13 @@
 -- What is answered on a verdict.
-use Rattle.std.proofs.Common.{◌≡◌, ℕ, Bool, true, false, List, refl, sym, subst}
+use Rattle.std.proofs.Common.{◌≡◌, ℕ, Bool, List, refl, sym, subst}
 use Rattle.trop_theory.specs.Semiring.{Semiring}
 use Rattle.trop_theory.specs.Numbers.{Numbering}
 use Rattle.trop_spelling.specs.declared.ring_kind.RingKind.{RingKind}
 use Rattle.cone_reports.specs.Reports.{Report}
-use Rattle.cone_reports.specs.Inductive.{IsInductive}
 use Rattle.cone_reports.specs.Verdicts.{Verdict, Inductive, NotWhole, Escapes, InvFails, AssertWrong, IsVerdict}
 use Rattle.prog_check.specs.Truths.{IsTrueAtVisits}
 use Rattle.tplib_check.specs.Lines.{verdict_line, says_inductive}
-use Rattle.tplib_check.specs.Check.{IsVerdictReply}
+use Rattle.tplib_check.specs.Answers.{IsVerdictReply}
 
 module _ {V : Type 0} (kind : RingKind) (R : Semiring V) (N : Numbering V) (reversed : Bool) (report : Report V) where
   -- with the answer and the text of the verdict itself
@@ -44,7 +43,7 @@ module _ {V : Type 0} (kind : RingKind) (R : Semiring V) (N : Numbering V) (reve
 
   pub reply_is : (v : Verdict V) → IsVerdict R N reversed report v
       → ((other : Verdict V) → IsVerdict R N reversed report other → other ≡ v)
-      → (v ≡ Inductive → IsTrueAtVisits R N reversed report) → (yes : Bool) → yes ≡ says_inductive v → (text : List ℕ)
-      → text ≡ verdict_line kind N v → IsVerdictReply kind R N reversed report yes text
-  reply_is v h only t yes e text l =
+      → (v ≡ Inductive → IsTrueAtVisits R N reversed report) → (told : Bool) → told ≡ says_inductive v → (text : List ℕ)
+      → text ≡ verdict_line kind N v → IsVerdictReply kind R N reversed report told text
+  reply_is v h only t told e text l =
       subst (λ b. IsVerdictReply kind R N reversed report b text) (sym e) (reply_of v h only t text l)

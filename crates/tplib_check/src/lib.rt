@@ -5,6 +5,7 @@
 #![tactic(auto)]
 
 mod check;
+mod reply;
 mod verdict_text;
 
 pub use check::check_reply;

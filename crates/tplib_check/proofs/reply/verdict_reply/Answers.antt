@@ -1,7 +1,7 @@
 use Rattle.report_value.specs.Views.{said}
 use Rattle.prog_check.specs.Views.{verdict_of}
 use Rattle.tplib_check.proofs.Replies.{reply_is}
-use Rattle.tplib_check.proofs.check.verdict_reply.Goals as goal
+use Rattle.tplib_check.proofs.reply.verdict_reply.Goals as goal
 
 pub returns : goal.returns
 returns g c =

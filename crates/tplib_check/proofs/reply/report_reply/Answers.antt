@@ -1,8 +1,8 @@
 use Rattle.std.proofs.Common.{sym, subst}
 use Rattle.std.specs.Prelude.{IfOk}
 use Rattle.report_value.specs.Texts.{text_of}
-use Rattle.tplib_check.specs.Check.{IsCheckAnswer}
-use Rattle.tplib_check.proofs.check.report_reply.Goals as goal
+use Rattle.tplib_check.specs.Answers.{IsCheckAnswer}
+use Rattle.tplib_check.proofs.reply.report_reply.Goals as goal
 
 pub returns-in-Max : goal.returns-in-Max
 returns-in-Max c = subst (λ r. IfOk c.verdict_reply.result
