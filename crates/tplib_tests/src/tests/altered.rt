@@ -14,7 +14,7 @@ struct Valid {
     text: &'static str,
 }
 
-const FILES: [Valid; 12] = [
+const FILES: [Valid; 14] = [
     Valid {
         words: "reduce",
         text: "kind gens\nsemiring max\nvars x y\n# two points and a ray\npoint [0, -oo]\npoint [3, 1]\nray [0, -7]\n",
@@ -62,6 +62,14 @@ const FILES: [Valid; 12] = [
     Valid {
         words: "trace turns=9",
         text: "vars x; x := 3; while x > 0 || ? { x := x - 1; } assert x = 0; start [-7] choices []",
+    },
+    Valid {
+        words: "analyze mode=min narrow=1",
+        text: "vars i n;\ni := 0;\nwhile i < n || ? {\n  i := i + 1;\n}\nif n >= 3 { havoc i; } else { assume i <= n; }\nassert min(i, n) <= n;\n",
+    },
+    Valid {
+        words: "check",
+        text: "report 2\nmode max\ndelay 2\nnarrow 0\npasses 1\nprogram\nvars x;\nassume x <= 3;\nassert x <= 4;\nend\nat 0 statement 0\nray [0]\npoint [-oo]\nat 1 statement 1\npoint [-oo]\npoint [3]\ninv x <= 3\nat 2 exit\npoint [-oo]\npoint [3]\ninv x <= 3\nassert 1 proved\nend\n",
     },
 ];
 

@@ -35,7 +35,7 @@ fn ends_so(alloc: Global, case: &Case) -> Result<bool, Fail> {
 
 const THREE_POINTS: &[u8] = b"kind gens\nsemiring max\nvars x\npoint [0]\npoint [1]\npoint [2]\n";
 
-const CASES: [Case; 18] = [
+const CASES: [Case; 22] = [
     Case {
         words: "reduce",
         input: THREE_POINTS,
@@ -194,9 +194,45 @@ const CASES: [Case; 18] = [
         input: b"",
         read_fails: 0,
         write_fails: 0,
-        code: 2,
+        code: 3,
         out: b"",
-        err: b"tplib: bad words\n",
+        err: b"tplib: line 1, column 1: syntax\n",
+    },
+    Case {
+        words: "analyze mode=max delay=0 narrow=1",
+        input: b"vars;",
+        read_fails: 0,
+        write_fails: 0,
+        code: 0,
+        out: b"report 2\nmode max\ndelay 0\nnarrow 1\npasses 1\nprogram\nvars;\nend\nat 0 exit\npoint []\nend\n",
+        err: b"",
+    },
+    Case {
+        words: "check",
+        input: b"report 1\nmode max\ndelay 0\npasses 1\nprogram\nvars; end\nat 0 exit\nend\n",
+        read_fails: 0,
+        write_fails: 0,
+        code: 3,
+        out: b"",
+        err: b"tplib: line 8: report fault\n",
+    },
+    Case {
+        words: "check",
+        input: b"report 1\nmode max\ndelay 0\npasses 1\nprogram\nvars; end\nat 0 exit\nunreachable\nend\n",
+        read_fails: 0,
+        write_fails: 0,
+        code: 1,
+        out: b"not whole\n",
+        err: b"",
+    },
+    Case {
+        words: "check",
+        input: b"report 1\nmode max\ndelay 0\npasses 1\nprogram\nvars; end\nat 0 exit\npoint []\nend\n",
+        read_fails: 0,
+        write_fails: 2,
+        code: 7,
+        out: b"inductiv",
+        err: b"tplib: write failed\n",
     },
 ];
 
