@@ -1,0 +1,312 @@
+-- What one line more comes to, by the cases of the reader.
+use Rattle.std.proofs.Common.{◌≡◌, ◌<◌, ◌≤◌, ◌&&◌, ℕ, zero, suc, Bool, true, false, cond, Option, Some, None, List, [], ◌∷◌, ◌++◌, map, length, refl, sym, ap, subst, ◌∙◌, arith, eqb-true}
+use Rattle.std.specs.Prelude.{nat_eq, nat_lt, slice_get, Result, Ok, Err}
+use Rattle.trop_theory.specs.Inequalities.{Inequality}
+use Rattle.trop_text.specs.declared.fault.FaultKind.{FaultKind}
+use Rattle.trop_text.specs.declared.fault.FaultKind.TheVariants.{Syntax, TooManyLines}
+use Rattle.prog_theory.specs.Graph.{Point}
+use Rattle.report_texts.specs.Limits.{most_lines}
+use Rattle.report_texts.specs.Lines.{Block, Body, Judged}
+use Rattle.report_texts.specs.Progress.{Place, Outside, Opened, Shut, InRows, InInvs, Judging, Progress, block, ending, is_label, is_number, moved, opened, judged, first_judged, shut, with_row, with_inv, may_row, may_inv, behind, after_at, after_assert, verdicts, complete, final}
+use Rattle.report_reading.specs.Places.{open_place, judges}
+use Rattle.report_reading.specs.Progress.{ended_in, more_judged, after_verdict}
+
+module _ {V : Type 0} where
+  -- ---- the block of the next point
+
+  module _ (points : List Point) (blocks : List (Block V)) (n : ℕ) (p : Point) where
+    abbrev led : Bool → Option (Progress V)
+    led b = moved blocks (cond b (Some (Opened p)) None)
+
+    pub opened_other : nat_eq n (length blocks) ≡ false → opened points blocks n p ≡ None
+    opened_other e = ap (λ b. led (b && is_label p (slice_get points n))) e
+
+    label_at : nat_eq n (length blocks) ≡ true → (b : Bool) → is_label p (slice_get points (length blocks)) ≡ b →
+        is_label p (slice_get points n) ≡ b
+    label_at e b h = ap (λ k. is_label p (slice_get points k)) (eqb-true n (length blocks) e) ∙ h
+
+    pub opened_none : nat_eq n (length blocks) ≡ true → is_label p (slice_get points (length blocks)) ≡ false →
+        opened points blocks n p ≡ None
+    opened_none e h = ap (λ b. led (b && is_label p (slice_get points n))) e ∙ ap led (label_at e false h)
+
+    pub opened_next : nat_eq n (length blocks) ≡ true → is_label p (slice_get points (length blocks)) ≡ true →
+        opened points blocks n p ≡ Some (record { blocks = blocks; place = Opened p })
+    opened_next e h = ap (λ b. led (b && is_label p (slice_get points n))) e ∙ ap led (label_at e true h)
+
+  -- ---- verdicts
+
+  module _ (points : List Point) (numbers : List ℕ) (blocks : List (Block V)) (n : ℕ) (b : Bool) where
+    pub first_early : nat_eq (length blocks) (length points) ≡ false → first_judged points numbers blocks n b ≡ None
+    first_early e = ap (λ c. moved blocks (cond c (judged numbers 0 (λ j. Judging j []) n b) None)) e
+
+    pub first_none : nat_eq (length blocks) (length points) ≡ true → is_number n (slice_get numbers 0) ≡ false →
+        first_judged points numbers blocks n b ≡ None
+    first_none e h = ap (λ c. moved blocks (cond c (judged numbers 0 (λ j. Judging j []) n b) None)) e
+        ∙ ap (λ c. moved blocks (cond c (Some (Judging (record { number = n; proved = b }) [])) None)) h
+
+    pub first_next : nat_eq (length blocks) (length points) ≡ true → is_number n (slice_get numbers 0) ≡ true →
+        first_judged points numbers blocks n b
+        ≡ Some (record { blocks = blocks; place = Judging (record { number = n; proved = b }) [] })
+    first_next e h = ap (λ c. moved blocks (cond c (judged numbers 0 (λ j. Judging j []) n b) None)) e
+        ∙ ap (λ c. moved blocks (cond c (Some (Judging (record { number = n; proved = b }) [])) None)) h
+
+  module _ (numbers : List ℕ) (blocks : List (Block V)) (j : Judged) (js : List Judged) (n : ℕ) (b : Bool) where
+    abbrev further : Bool → Option (Progress V)
+    further c = moved blocks (cond c (Some (Judging j (js ++ record { number = n; proved = b } ∷ []))) None)
+
+    pub more_none : is_number n (slice_get numbers (suc (length js))) ≡ false →
+        more_judged numbers blocks j js n b ≡ None
+    more_none h = ap further h
+
+    pub more_next : is_number n (slice_get numbers (suc (length js))) ≡ true →
+        more_judged numbers blocks j js n b ≡ Some (record {
+          blocks = blocks;
+          place = Judging j (js ++ record { number = n; proved = b } ∷ []);
+        })
+    more_next h = ap further h
+
+  -- ---- what is ended
+
+  abbrev pub ended_body : List Judged → List (Block V) → Option (Body V)
+  ended_body js bs = Some (record { blocks = bs; judged = js })
+
+  behind_some : {B : Type 0} (blocks : List (Block V)) (o : Option (List (Block V))) (js : List Judged) (b : Body V)
+      (f : List (Block V) → Option B) → Some b ≡ behind blocks o (ended_body js) → behind blocks o f ≡ f b.blocks
+  behind_some blocks None js b f e = absurd cc
+  behind_some blocks (Some es) js b f e =
+      let k : b ≡ record { blocks = blocks ++ es; judged = js } = cc in
+      ap (λ (z : Body V). f z.blocks) (sym k)
+
+  behind_none : {B : Type 0} (blocks : List (Block V)) (o : Option (List (Block V))) (js : List Judged)
+      (f : List (Block V) → Option B) → None ≡ behind blocks o (ended_body js) → behind blocks o f ≡ None
+  behind_none blocks None js f e = refl
+  behind_none blocks (Some es) js f e = absurd cc
+
+  module _ (blocks : List (Block V)) where
+    pub ended-outside : Some (record { blocks = blocks; judged = [] }) ≡ ended_in blocks Outside
+    ended-outside = ap (λ (z : List (Block V)). Some (record { blocks = z; judged = [] })) (sym (append_nil blocks))
+      where
+        append_nil : (xs : List (Block V)) → xs ++ [] ≡ xs
+        append_nil [] = refl
+        append_nil (x ∷ xs) = ap (λ (z : List (Block V)). x ∷ z) (append_nil xs)
+
+    pub ended-judging : (j : Judged) (js : List Judged) →
+        Some (record { blocks = blocks; judged = j ∷ js }) ≡ ended_in blocks (Judging j js)
+    ended-judging j js = ap (λ (z : List (Block V)). Some (record { blocks = z; judged = j ∷ js }))
+        (sym (append_nil blocks))
+      where
+        append_nil : (xs : List (Block V)) → xs ++ [] ≡ xs
+        append_nil [] = refl
+        append_nil (x ∷ xs) = ap (λ (z : List (Block V)). x ∷ z) (append_nil xs)
+
+    pub ended-open : (p : Point) (rows : List (List V)) (invs : List (Inequality V)) → (length rows ≡ 0 → ⊥) →
+        Some (record { blocks = blocks ++ block p rows invs ∷ []; judged = [] })
+        ≡ ended_in blocks (open_place p rows invs)
+    ended-open p [] invs h = absurd (h refl)
+    ended-open p (x ∷ rows) [] h = refl
+    ended-open p (x ∷ rows) (i ∷ invs) h = refl
+
+    pub ended-opened : (p : Point) (rows : List (List V)) (invs : List (Inequality V)) → length rows ≡ 0 →
+        None ≡ ended_in blocks (open_place p rows invs)
+    ended-opened p [] invs h = refl
+    ended-opened p (x ∷ rows) invs h = absurd (omega (arith, h))
+
+  -- ---- behind verdicts or not
+
+  module _ (points : List Point) (blocks : List (Block V)) (n : ℕ) (p : Point) where
+    pub at-judging : (place : Place V) → judges place ≡ true → after_at points blocks place n p ≡ None
+    at-judging (Judging j js) e = refl
+    at-judging Outside e = absurd cc
+    at-judging (Opened q) e = absurd cc
+    at-judging (Shut q) e = absurd cc
+    at-judging (InRows q x rows) e = absurd cc
+    at-judging (InInvs q x rows i invs) e = absurd cc
+
+    at-other : (place : Place V) → judges place ≡ false →
+        after_at points blocks place n p ≡ behind blocks (ending place) (λ bs. opened points bs n p)
+    at-other (Judging j js) e = absurd cc
+    at-other Outside e = refl
+    at-other (Opened q) e = refl
+    at-other (Shut q) e = refl
+    at-other (InRows q x rows) e = refl
+    at-other (InInvs q x rows i invs) e = refl
+
+    pub at-some : (place : Place V) (b : Body V) → judges place ≡ false → Some b ≡ ended_in blocks place →
+        after_at points blocks place n p ≡ opened points b.blocks n p
+    at-some place b j e = at-other place j
+        ∙ behind_some blocks (ending place) (verdicts place) b (λ bs. opened points bs n p) e
+
+    pub at-none : (place : Place V) → judges place ≡ false → None ≡ ended_in blocks place →
+        after_at points blocks place n p ≡ None
+    at-none place j e = at-other place j
+        ∙ behind_none blocks (ending place) (verdicts place) (λ bs. opened points bs n p) e
+
+  module _ (points : List Point) (numbers : List ℕ) (blocks : List (Block V)) (n : ℕ) (b : Bool) where
+    pub assert-judging : (place : Place V) → judges place ≡ true →
+        after_assert points numbers blocks place n b ≡ after_verdict numbers blocks place n b
+    assert-judging (Judging j js) e = refl
+    assert-judging Outside e = absurd cc
+    assert-judging (Opened q) e = absurd cc
+    assert-judging (Shut q) e = absurd cc
+    assert-judging (InRows q x rows) e = absurd cc
+    assert-judging (InInvs q x rows i invs) e = absurd cc
+
+    assert-other : (place : Place V) → judges place ≡ false → after_assert points numbers blocks place n b
+        ≡ behind blocks (ending place) (λ bs. first_judged points numbers bs n b)
+    assert-other (Judging j js) e = absurd cc
+    assert-other Outside e = refl
+    assert-other (Opened q) e = refl
+    assert-other (Shut q) e = refl
+    assert-other (InRows q x rows) e = refl
+    assert-other (InInvs q x rows i invs) e = refl
+
+    pub assert-some : (place : Place V) (body : Body V) → judges place ≡ false → Some body ≡ ended_in blocks place →
+        after_assert points numbers blocks place n b ≡ first_judged points numbers body.blocks n b
+    assert-some place body j e = assert-other place j
+        ∙ behind_some blocks (ending place) (verdicts place) body (λ bs. first_judged points numbers bs n b) e
+
+    pub assert-none : (place : Place V) → judges place ≡ false → None ≡ ended_in blocks place →
+        after_assert points numbers blocks place n b ≡ None
+    assert-none place j e = assert-other place j
+        ∙ behind_none blocks (ending place) (verdicts place) (λ bs. first_judged points numbers bs n b) e
+
+    pub verdict-open : (p : Point) (rows : List (List V)) (invs : List (Inequality V)) →
+        after_verdict numbers blocks (open_place p rows invs) n b ≡ None
+    verdict-open p [] invs = refl
+    verdict-open p (x ∷ rows) [] = refl
+    verdict-open p (x ∷ rows) (i ∷ invs) = refl
+
+  -- ---- the last line
+
+  module _ (points : List Point) (numbers : List ℕ) (s : Progress V) where
+    abbrev all : Body V → Bool
+    all b = nat_eq (length b.blocks) (length points) && nat_eq (length b.judged) (length numbers)
+
+    last-at : (o : Option (List (Block V))) (js : List Judged) (b : Body V) (c : Bool) →
+        Some b ≡ behind s.blocks o (ended_body js) → all b ≡ c →
+        behind s.blocks o (complete points numbers js) ≡ cond c (Some b) None
+    last-at None js b c e h = absurd cc
+    last-at (Some es) js b c e h =
+        let k : b ≡ record { blocks = s.blocks ++ es; judged = js } = cc in
+        ap (λ (z : Body V). cond (all z) (Some z) None) (sym k) ∙ ap (λ d. cond d (Some b) None) h
+
+    pub last-some : (b : Body V) → Some b ≡ ended_in s.blocks s.place → all b ≡ true →
+        final points numbers s ≡ Some b
+    last-some b e h = last-at (ending s.place) (verdicts s.place) b true e h
+
+    pub last-short : (b : Body V) → Some b ≡ ended_in s.blocks s.place → all b ≡ false → final points numbers s ≡ None
+    last-short b e h = last-at (ending s.place) (verdicts s.place) b false e h
+
+    pub last-none : None ≡ ended_in s.blocks s.place → final points numbers s ≡ None
+    last-none e = behind_none s.blocks (ending s.place) (verdicts s.place)
+        (complete points numbers (verdicts s.place)) e
+
+  -- ---- in a block
+
+  module _ (p : Point) where
+    pub shut-first : (rows : List (List V)) (invs : List (Inequality V)) → length rows ≡ 0 →
+        shut (open_place p rows invs) ≡ Some (Shut p)
+    shut-first [] invs h = refl
+    shut-first (x ∷ rows) invs h = absurd (omega (arith, h))
+
+    pub shut-late : (rows : List (List V)) (invs : List (Inequality V)) → (length rows ≡ 0 → ⊥) →
+        shut (open_place p rows invs) ≡ None
+    shut-late [] invs h = absurd (h refl)
+    shut-late (x ∷ rows) [] h = refl
+    shut-late (x ∷ rows) (i ∷ invs) h = refl
+
+    few_true : (n : ℕ) → n < most_lines → nat_lt n most_lines ≡ true
+    few_true n h = search h
+
+    few_false : (n : ℕ) → most_lines ≤ n → nat_lt n most_lines ≡ false
+    few_false n h = search h
+
+    pub row-first : (y : List V) (rows : List (List V)) (invs : List (Inequality V)) → length rows ≡ 0 →
+        with_row y (open_place p rows invs) ≡ Some (open_place p (y ∷ []) [])
+    row-first y [] invs h = refl
+    row-first y (x ∷ rows) invs h = absurd (omega (arith, h))
+
+    pub row-more : (y : List V) (rows : List (List V)) (invs : List (Inequality V)) → (length rows ≡ 0 → ⊥) →
+        length invs ≡ 0 → length rows < most_lines →
+        with_row y (open_place p rows invs) ≡ Some (open_place p (rows ++ y ∷ []) invs)
+    row-more y [] invs h k lt = absurd (h refl)
+    row-more y (x ∷ rows) [] h k lt =
+        ap (λ b. cond b (Some (InRows p x (rows ++ y ∷ []))) None) (few_true (suc (length rows)) lt)
+    row-more y (x ∷ rows) (i ∷ invs) h k lt = absurd (omega (arith, k))
+
+    pub row-late : (y : List V) (rows : List (List V)) (invs : List (Inequality V)) → (length rows ≡ 0 → ⊥) →
+        (length invs ≡ 0 → ⊥) → with_row y (open_place p rows invs) ≡ None
+    row-late y [] invs h k = absurd (h refl)
+    row-late y (x ∷ rows) [] h k = absurd (k refl)
+    row-late y (x ∷ rows) (i ∷ invs) h k = refl
+
+    pub row-full : (y : List V) (rows : List (List V)) (invs : List (Inequality V)) → (length rows ≡ 0 → ⊥) →
+        most_lines ≤ length rows → with_row y (open_place p rows invs) ≡ None
+    row-full y [] invs h le = absurd (h refl)
+    row-full y (x ∷ rows) [] h le =
+        ap (λ b. cond b (Some (InRows p x (rows ++ y ∷ []))) None) (few_false (suc (length rows)) le)
+    row-full y (x ∷ rows) (i ∷ invs) h le = refl
+
+    pub inv-early : (j : Inequality V) (rows : List (List V)) (invs : List (Inequality V)) → length rows ≡ 0 →
+        with_inv j (open_place p rows invs) ≡ None
+    inv-early j [] invs h = refl
+    inv-early j (x ∷ rows) invs h = absurd (omega (arith, h))
+
+    pub inv-more : (j : Inequality V) (rows : List (List V)) (invs : List (Inequality V)) → (length rows ≡ 0 → ⊥) →
+        length invs < most_lines → with_inv j (open_place p rows invs) ≡ Some (open_place p rows (invs ++ j ∷ []))
+    inv-more j [] invs h lt = absurd (h refl)
+    inv-more j (x ∷ rows) [] h lt = refl
+    inv-more j (x ∷ rows) (i ∷ invs) h lt =
+        ap (λ b. cond b (Some (InInvs p x rows i (invs ++ j ∷ []))) None) (few_true (suc (length invs)) lt)
+
+    pub inv-full : (j : Inequality V) (rows : List (List V)) (invs : List (Inequality V)) → most_lines ≤ length invs →
+        with_inv j (open_place p rows invs) ≡ None
+    inv-full j [] invs le = refl
+    inv-full j (x ∷ rows) [] le = absurd (omega (arith, le))
+    inv-full j (x ∷ rows) (i ∷ invs) le =
+        ap (λ b. cond b (Some (InInvs p x rows i (invs ++ j ∷ []))) None) (few_false (suc (length invs)) le)
+
+    -- ---- which words may begin the next line
+
+    abbrev word : Bool → Result (Unit {0}) FaultKind
+    word b = cond b (Ok tt) (Err TooManyLines)
+
+    pub may_row-first : (rows : List (List V)) (invs : List (Inequality V)) → length rows ≡ 0 →
+        may_row (open_place p rows invs) ≡ Ok tt
+    may_row-first [] invs h = refl
+    may_row-first (x ∷ rows) invs h = absurd (omega (arith, h))
+
+    pub may_row-late : (rows : List (List V)) (invs : List (Inequality V)) → (length rows ≡ 0 → ⊥) →
+        (length invs ≡ 0 → ⊥) → may_row (open_place p rows invs) ≡ Err Syntax
+    may_row-late [] invs h k = absurd (h refl)
+    may_row-late (x ∷ rows) [] h k = absurd (k refl)
+    may_row-late (x ∷ rows) (i ∷ invs) h k = refl
+
+    pub may_row-more : (rows : List (List V)) (invs : List (Inequality V)) → length invs ≡ 0 →
+        length rows < most_lines → may_row (open_place p rows invs) ≡ Ok tt
+    may_row-more [] invs k lt = refl
+    may_row-more (x ∷ rows) [] k lt = ap word (few_true (suc (length rows)) lt)
+    may_row-more (x ∷ rows) (i ∷ invs) k lt = absurd (omega (arith, k))
+
+    pub may_row-full : (rows : List (List V)) (invs : List (Inequality V)) → length invs ≡ 0 →
+        most_lines ≤ length rows → may_row (open_place p rows invs) ≡ Err TooManyLines
+    may_row-full [] invs k le = absurd (omega (arith, le))
+    may_row-full (x ∷ rows) [] k le = ap word (few_false (suc (length rows)) le)
+    may_row-full (x ∷ rows) (i ∷ invs) k le = absurd (omega (arith, k))
+
+    pub may_inv-first : (rows : List (List V)) (invs : List (Inequality V)) → length rows ≡ 0 →
+        may_inv (open_place p rows invs) ≡ Ok tt
+    may_inv-first [] invs h = refl
+    may_inv-first (x ∷ rows) invs h = absurd (omega (arith, h))
+
+    pub may_inv-more : (rows : List (List V)) (invs : List (Inequality V)) → length invs < most_lines →
+        may_inv (open_place p rows invs) ≡ Ok tt
+    may_inv-more [] invs lt = refl
+    may_inv-more (x ∷ rows) [] lt = refl
+    may_inv-more (x ∷ rows) (i ∷ invs) lt = ap word (few_true (suc (length invs)) lt)
+
+    pub may_inv-full : (rows : List (List V)) (invs : List (Inequality V)) → (length rows ≡ 0 → ⊥) →
+        most_lines ≤ length invs → may_inv (open_place p rows invs) ≡ Err TooManyLines
+    may_inv-full [] invs h le = absurd (h refl)
+    may_inv-full (x ∷ rows) [] h le = absurd (omega (arith, le))
+    may_inv-full (x ∷ rows) (i ∷ invs) h le = ap word (few_false (suc (length invs)) le)
