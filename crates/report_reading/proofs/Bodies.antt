@@ -5,6 +5,11 @@ use Rattle.trop_theory.specs.Numbers.{Numbering}
 use Rattle.trop_grammar.specs.Reading.{Reading, Miss}
 use Rattle.trop_text.specs.Pieces.{Piece}
 use Rattle.trop_text.specs.declared.fault.FaultKind.{FaultKind}
+use Rattle.trop_text.specs.declared.fault.FaultKind.TheVariants.{ReportFault}
+use Rattle.trop_reading.specs.declared.read_err.ReadErr.{ReadErr}
+use Rattle.trop_reading.specs.declared.read_err.ReadErr.TheVariants as errors
+use Rattle.trop_reading.specs.Gives.{Fails}
+use Rattle.trop_reading.proofs.Loops.{fails_with}
 use Rattle.trop_spelling.specs.declared.ring_kind.RingKind.{RingKind}
 use Rattle.prog_theory.specs.Graph.{Point}
 use Rattle.report_texts.specs.Lines.{Line, Body}
@@ -12,6 +17,7 @@ use Rattle.report_texts.specs.Progress.{Place, Progress, start}
 use Rattle.report_texts.specs.LineTexts.{line_at}
 use Rattle.report_texts.specs.Bodies.{Outcome, Further, Whole, outcome, settled, on_line, body_from, body_at}
 use Rattle.report_texts.proofs.LineLaws.{line_reads, placed_is, some_token}
+use Rattle.report_texts.specs.Heads.{from_last}
 use Rattle.report_reading.specs.Bodies.{taken, judged_line, step_at}
 
 module _ {V : Type 0} (kind : RingKind) (R : Semiring V) (N : Numbering V) (names : List (List ℕ)) where
@@ -59,6 +65,30 @@ module _ {V : Type 0} (kind : RingKind) (R : Semiring V) (N : Numbering V) (name
   body_step : (n : ℕ) (s : Progress V) (ts : List Piece) → reads_on (suc n) s ts ≡ goes (step s ts) (reads_on n)
   unfolding body_from
   body_step n s ts = line_goes ts (outcome N points numbers s) (line_at kind R N names s.place ts) (reads_on n)
+
+  -- ---- one step
+
+  pub step_taken : (s : Progress V) (ts rest : List Piece) (x : Line V) (o : Outcome V) →
+      line_at kind R N names s.place ts ≡ Ok (x, rest) → Some o ≡ outcome N points numbers s x →
+      step s ts ≡ Ok (o, rest)
+  step_taken s ts rest x o e k = ap (judged_line ts (outcome N points numbers s)) e ∙ ap (taken ts rest) (sym k)
+
+  pub step_against : (s : Progress V) (ts rest : List Piece) (x : Line V) →
+      line_at kind R N names s.place ts ≡ Ok (x, rest) → None ≡ outcome N points numbers s x →
+      step s ts ≡ Err (record { what = ReportFault; rest = from_last ts rest })
+  step_against s ts rest x e k = ap (judged_line ts (outcome N points numbers s)) e ∙ ap (taken ts rest) (sym k)
+
+  pub step_failed : (s : Progress V) (ts : List Piece) (e : ReadErr) → Fails e (line_at kind R N names s.place ts) →
+      Fails e (step s ts)
+  step_failed s ts e f = at e (line_at kind R N names s.place ts) f
+    where
+      at : (e : ReadErr) (v : Reading Piece FaultKind (Line V)) → Fails e v →
+          Fails e (judged_line ts (outcome N points numbers s) v)
+      at errors.NoMemory v f = tt
+      at (errors.Wrong what here) (Ok x) f = absurd f
+      at (errors.Wrong what here) (Err miss) f = f
+
+  -- ---- several
 
   -- what is left, with the lines so far, comes to the whole
   pub record IsAhead (s : Progress V) (left : List Piece) (whole : Reading Piece FaultKind (Body V)) : Type 0 where
@@ -111,3 +141,6 @@ module _ {V : Type 0} (kind : RingKind) (R : Semiring V) (N : Numbering V) (name
     ahead_fails miss e =
         let n = has_step in
         sym n.so_far ∙ ap (λ (z : Reading Piece FaultKind (Outcome V)). goes z (reads_on n.fewer)) e
+
+    pub ahead_failed : (e : ReadErr) → Fails e (step s ts) → Fails e whole
+    ahead_failed e f = fails_with e (step s ts) whole f ahead_fails

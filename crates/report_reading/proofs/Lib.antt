@@ -1,4 +1,6 @@
 pub mod LastPlaces
+pub mod Versions
+pub mod ProgramFronts
 pub mod Transitions
 pub mod Bodies
 pub mod Numbers

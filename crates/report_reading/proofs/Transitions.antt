@@ -83,98 +83,98 @@ module _ {V : Type 0} where
   behind_none blocks (Some es) js f e = absurd cc
 
   module _ (blocks : List (Block V)) where
-    pub ended-outside : Some (record { blocks = blocks; judged = [] }) ≡ ended_in blocks Outside
-    ended-outside = ap (λ (z : List (Block V)). Some (record { blocks = z; judged = [] })) (sym (append_nil blocks))
+    pub ended_outside : Some (record { blocks = blocks; judged = [] }) ≡ ended_in blocks Outside
+    ended_outside = ap (λ (z : List (Block V)). Some (record { blocks = z; judged = [] })) (sym (append_nil blocks))
       where
         append_nil : (xs : List (Block V)) → xs ++ [] ≡ xs
         append_nil [] = refl
         append_nil (x ∷ xs) = ap (λ (z : List (Block V)). x ∷ z) (append_nil xs)
 
-    pub ended-judging : (j : Judged) (js : List Judged) →
+    pub ended_judging : (j : Judged) (js : List Judged) →
         Some (record { blocks = blocks; judged = j ∷ js }) ≡ ended_in blocks (Judging j js)
-    ended-judging j js = ap (λ (z : List (Block V)). Some (record { blocks = z; judged = j ∷ js }))
+    ended_judging j js = ap (λ (z : List (Block V)). Some (record { blocks = z; judged = j ∷ js }))
         (sym (append_nil blocks))
       where
         append_nil : (xs : List (Block V)) → xs ++ [] ≡ xs
         append_nil [] = refl
         append_nil (x ∷ xs) = ap (λ (z : List (Block V)). x ∷ z) (append_nil xs)
 
-    pub ended-open : (p : Point) (rows : List (List V)) (invs : List (Inequality V)) → (length rows ≡ 0 → ⊥) →
+    pub ended_open : (p : Point) (rows : List (List V)) (invs : List (Inequality V)) → (length rows ≡ 0 → ⊥) →
         Some (record { blocks = blocks ++ block p rows invs ∷ []; judged = [] })
         ≡ ended_in blocks (open_place p rows invs)
-    ended-open p [] invs h = absurd (h refl)
-    ended-open p (x ∷ rows) [] h = refl
-    ended-open p (x ∷ rows) (i ∷ invs) h = refl
+    ended_open p [] invs h = absurd (h refl)
+    ended_open p (x ∷ rows) [] h = refl
+    ended_open p (x ∷ rows) (i ∷ invs) h = refl
 
-    pub ended-opened : (p : Point) (rows : List (List V)) (invs : List (Inequality V)) → length rows ≡ 0 →
+    pub ended_opened : (p : Point) (rows : List (List V)) (invs : List (Inequality V)) → length rows ≡ 0 →
         None ≡ ended_in blocks (open_place p rows invs)
-    ended-opened p [] invs h = refl
-    ended-opened p (x ∷ rows) invs h = absurd (omega (arith, h))
+    ended_opened p [] invs h = refl
+    ended_opened p (x ∷ rows) invs h = absurd (omega (arith, h))
 
   -- ---- behind verdicts or not
 
   module _ (points : List Point) (blocks : List (Block V)) (n : ℕ) (p : Point) where
-    pub at-judging : (place : Place V) → judges place ≡ true → after_at points blocks place n p ≡ None
-    at-judging (Judging j js) e = refl
-    at-judging Outside e = absurd cc
-    at-judging (Opened q) e = absurd cc
-    at-judging (Shut q) e = absurd cc
-    at-judging (InRows q x rows) e = absurd cc
-    at-judging (InInvs q x rows i invs) e = absurd cc
+    pub at_judging : (place : Place V) → judges place ≡ true → after_at points blocks place n p ≡ None
+    at_judging (Judging j js) e = refl
+    at_judging Outside e = absurd cc
+    at_judging (Opened q) e = absurd cc
+    at_judging (Shut q) e = absurd cc
+    at_judging (InRows q x rows) e = absurd cc
+    at_judging (InInvs q x rows i invs) e = absurd cc
 
-    at-other : (place : Place V) → judges place ≡ false →
+    at_other : (place : Place V) → judges place ≡ false →
         after_at points blocks place n p ≡ behind blocks (ending place) (λ bs. opened points bs n p)
-    at-other (Judging j js) e = absurd cc
-    at-other Outside e = refl
-    at-other (Opened q) e = refl
-    at-other (Shut q) e = refl
-    at-other (InRows q x rows) e = refl
-    at-other (InInvs q x rows i invs) e = refl
+    at_other (Judging j js) e = absurd cc
+    at_other Outside e = refl
+    at_other (Opened q) e = refl
+    at_other (Shut q) e = refl
+    at_other (InRows q x rows) e = refl
+    at_other (InInvs q x rows i invs) e = refl
 
-    pub at-some : (place : Place V) (b : Body V) → judges place ≡ false → Some b ≡ ended_in blocks place →
+    pub at_some : (place : Place V) (b : Body V) → judges place ≡ false → Some b ≡ ended_in blocks place →
         after_at points blocks place n p ≡ opened points b.blocks n p
-    at-some place b j e = at-other place j
+    at_some place b j e = at_other place j
         ∙ behind_some blocks (ending place) (verdicts place) b (λ bs. opened points bs n p) e
 
-    pub at-none : (place : Place V) → judges place ≡ false → None ≡ ended_in blocks place →
+    pub at_none : (place : Place V) → judges place ≡ false → None ≡ ended_in blocks place →
         after_at points blocks place n p ≡ None
-    at-none place j e = at-other place j
+    at_none place j e = at_other place j
         ∙ behind_none blocks (ending place) (verdicts place) (λ bs. opened points bs n p) e
 
   module _ (points : List Point) (numbers : List ℕ) (blocks : List (Block V)) (n : ℕ) (b : Bool) where
-    pub assert-judging : (place : Place V) → judges place ≡ true →
+    pub assert_judging : (place : Place V) → judges place ≡ true →
         after_assert points numbers blocks place n b ≡ after_verdict numbers blocks place n b
-    assert-judging (Judging j js) e = refl
-    assert-judging Outside e = absurd cc
-    assert-judging (Opened q) e = absurd cc
-    assert-judging (Shut q) e = absurd cc
-    assert-judging (InRows q x rows) e = absurd cc
-    assert-judging (InInvs q x rows i invs) e = absurd cc
+    assert_judging (Judging j js) e = refl
+    assert_judging Outside e = absurd cc
+    assert_judging (Opened q) e = absurd cc
+    assert_judging (Shut q) e = absurd cc
+    assert_judging (InRows q x rows) e = absurd cc
+    assert_judging (InInvs q x rows i invs) e = absurd cc
 
-    assert-other : (place : Place V) → judges place ≡ false → after_assert points numbers blocks place n b
+    assert_other : (place : Place V) → judges place ≡ false → after_assert points numbers blocks place n b
         ≡ behind blocks (ending place) (λ bs. first_judged points numbers bs n b)
-    assert-other (Judging j js) e = absurd cc
-    assert-other Outside e = refl
-    assert-other (Opened q) e = refl
-    assert-other (Shut q) e = refl
-    assert-other (InRows q x rows) e = refl
-    assert-other (InInvs q x rows i invs) e = refl
+    assert_other (Judging j js) e = absurd cc
+    assert_other Outside e = refl
+    assert_other (Opened q) e = refl
+    assert_other (Shut q) e = refl
+    assert_other (InRows q x rows) e = refl
+    assert_other (InInvs q x rows i invs) e = refl
 
-    pub assert-some : (place : Place V) (body : Body V) → judges place ≡ false → Some body ≡ ended_in blocks place →
+    pub assert_some : (place : Place V) (body : Body V) → judges place ≡ false → Some body ≡ ended_in blocks place →
         after_assert points numbers blocks place n b ≡ first_judged points numbers body.blocks n b
-    assert-some place body j e = assert-other place j
+    assert_some place body j e = assert_other place j
         ∙ behind_some blocks (ending place) (verdicts place) body (λ bs. first_judged points numbers bs n b) e
 
-    pub assert-none : (place : Place V) → judges place ≡ false → None ≡ ended_in blocks place →
+    pub assert_none : (place : Place V) → judges place ≡ false → None ≡ ended_in blocks place →
         after_assert points numbers blocks place n b ≡ None
-    assert-none place j e = assert-other place j
+    assert_none place j e = assert_other place j
         ∙ behind_none blocks (ending place) (verdicts place) (λ bs. first_judged points numbers bs n b) e
 
-    pub verdict-open : (p : Point) (rows : List (List V)) (invs : List (Inequality V)) →
+    pub verdict_open : (p : Point) (rows : List (List V)) (invs : List (Inequality V)) →
         after_verdict numbers blocks (open_place p rows invs) n b ≡ None
-    verdict-open p [] invs = refl
-    verdict-open p (x ∷ rows) [] = refl
-    verdict-open p (x ∷ rows) (i ∷ invs) = refl
+    verdict_open p [] invs = refl
+    verdict_open p (x ∷ rows) [] = refl
+    verdict_open p (x ∷ rows) (i ∷ invs) = refl
 
   -- ---- the last line
 
@@ -182,38 +182,38 @@ module _ {V : Type 0} where
     abbrev all : Body V → Bool
     all b = nat_eq (length b.blocks) (length points) && nat_eq (length b.judged) (length numbers)
 
-    last-at : (o : Option (List (Block V))) (js : List Judged) (b : Body V) (c : Bool) →
+    last_at : (o : Option (List (Block V))) (js : List Judged) (b : Body V) (c : Bool) →
         Some b ≡ behind s.blocks o (ended_body js) → all b ≡ c →
         behind s.blocks o (complete points numbers js) ≡ cond c (Some b) None
-    last-at None js b c e h = absurd cc
-    last-at (Some es) js b c e h =
+    last_at None js b c e h = absurd cc
+    last_at (Some es) js b c e h =
         let k : b ≡ record { blocks = s.blocks ++ es; judged = js } = cc in
         ap (λ (z : Body V). cond (all z) (Some z) None) (sym k) ∙ ap (λ d. cond d (Some b) None) h
 
-    pub last-some : (b : Body V) → Some b ≡ ended_in s.blocks s.place → all b ≡ true →
+    pub last_some : (b : Body V) → Some b ≡ ended_in s.blocks s.place → all b ≡ true →
         final points numbers s ≡ Some b
-    last-some b e h = last-at (ending s.place) (verdicts s.place) b true e h
+    last_some b e h = last_at (ending s.place) (verdicts s.place) b true e h
 
-    pub last-short : (b : Body V) → Some b ≡ ended_in s.blocks s.place → all b ≡ false → final points numbers s ≡ None
-    last-short b e h = last-at (ending s.place) (verdicts s.place) b false e h
+    pub last_short : (b : Body V) → Some b ≡ ended_in s.blocks s.place → all b ≡ false → final points numbers s ≡ None
+    last_short b e h = last_at (ending s.place) (verdicts s.place) b false e h
 
-    pub last-none : None ≡ ended_in s.blocks s.place → final points numbers s ≡ None
-    last-none e = behind_none s.blocks (ending s.place) (verdicts s.place)
+    pub last_none : None ≡ ended_in s.blocks s.place → final points numbers s ≡ None
+    last_none e = behind_none s.blocks (ending s.place) (verdicts s.place)
         (complete points numbers (verdicts s.place)) e
 
   -- ---- in a block
 
   module _ (p : Point) where
-    pub shut-first : (rows : List (List V)) (invs : List (Inequality V)) → length rows ≡ 0 →
+    pub shut_first : (rows : List (List V)) (invs : List (Inequality V)) → length rows ≡ 0 →
         shut (open_place p rows invs) ≡ Some (Shut p)
-    shut-first [] invs h = refl
-    shut-first (x ∷ rows) invs h = absurd (omega (arith, h))
+    shut_first [] invs h = refl
+    shut_first (x ∷ rows) invs h = absurd (omega (arith, h))
 
-    pub shut-late : (rows : List (List V)) (invs : List (Inequality V)) → (length rows ≡ 0 → ⊥) →
+    pub shut_late : (rows : List (List V)) (invs : List (Inequality V)) → (length rows ≡ 0 → ⊥) →
         shut (open_place p rows invs) ≡ None
-    shut-late [] invs h = absurd (h refl)
-    shut-late (x ∷ rows) [] h = refl
-    shut-late (x ∷ rows) (i ∷ invs) h = refl
+    shut_late [] invs h = absurd (h refl)
+    shut_late (x ∷ rows) [] h = refl
+    shut_late (x ∷ rows) (i ∷ invs) h = refl
 
     few_true : (n : ℕ) → n < most_lines → nat_lt n most_lines ≡ true
     few_true n h = search h
@@ -221,49 +221,49 @@ module _ {V : Type 0} where
     few_false : (n : ℕ) → most_lines ≤ n → nat_lt n most_lines ≡ false
     few_false n h = search h
 
-    pub row-first : (y : List V) (rows : List (List V)) (invs : List (Inequality V)) → length rows ≡ 0 →
+    pub row_first : (y : List V) (rows : List (List V)) (invs : List (Inequality V)) → length rows ≡ 0 →
         with_row y (open_place p rows invs) ≡ Some (open_place p (y ∷ []) [])
-    row-first y [] invs h = refl
-    row-first y (x ∷ rows) invs h = absurd (omega (arith, h))
+    row_first y [] invs h = refl
+    row_first y (x ∷ rows) invs h = absurd (omega (arith, h))
 
-    pub row-more : (y : List V) (rows : List (List V)) (invs : List (Inequality V)) → (length rows ≡ 0 → ⊥) →
+    pub row_more : (y : List V) (rows : List (List V)) (invs : List (Inequality V)) → (length rows ≡ 0 → ⊥) →
         length invs ≡ 0 → length rows < most_lines →
         with_row y (open_place p rows invs) ≡ Some (open_place p (rows ++ y ∷ []) invs)
-    row-more y [] invs h k lt = absurd (h refl)
-    row-more y (x ∷ rows) [] h k lt =
+    row_more y [] invs h k lt = absurd (h refl)
+    row_more y (x ∷ rows) [] h k lt =
         ap (λ b. cond b (Some (InRows p x (rows ++ y ∷ []))) None) (few_true (suc (length rows)) lt)
-    row-more y (x ∷ rows) (i ∷ invs) h k lt = absurd (omega (arith, k))
+    row_more y (x ∷ rows) (i ∷ invs) h k lt = absurd (omega (arith, k))
 
-    pub row-late : (y : List V) (rows : List (List V)) (invs : List (Inequality V)) → (length rows ≡ 0 → ⊥) →
+    pub row_late : (y : List V) (rows : List (List V)) (invs : List (Inequality V)) → (length rows ≡ 0 → ⊥) →
         (length invs ≡ 0 → ⊥) → with_row y (open_place p rows invs) ≡ None
-    row-late y [] invs h k = absurd (h refl)
-    row-late y (x ∷ rows) [] h k = absurd (k refl)
-    row-late y (x ∷ rows) (i ∷ invs) h k = refl
+    row_late y [] invs h k = absurd (h refl)
+    row_late y (x ∷ rows) [] h k = absurd (k refl)
+    row_late y (x ∷ rows) (i ∷ invs) h k = refl
 
-    pub row-full : (y : List V) (rows : List (List V)) (invs : List (Inequality V)) → (length rows ≡ 0 → ⊥) →
+    pub row_full : (y : List V) (rows : List (List V)) (invs : List (Inequality V)) → (length rows ≡ 0 → ⊥) →
         most_lines ≤ length rows → with_row y (open_place p rows invs) ≡ None
-    row-full y [] invs h le = absurd (h refl)
-    row-full y (x ∷ rows) [] h le =
+    row_full y [] invs h le = absurd (h refl)
+    row_full y (x ∷ rows) [] h le =
         ap (λ b. cond b (Some (InRows p x (rows ++ y ∷ []))) None) (few_false (suc (length rows)) le)
-    row-full y (x ∷ rows) (i ∷ invs) h le = refl
+    row_full y (x ∷ rows) (i ∷ invs) h le = refl
 
-    pub inv-early : (j : Inequality V) (rows : List (List V)) (invs : List (Inequality V)) → length rows ≡ 0 →
+    pub inv_early : (j : Inequality V) (rows : List (List V)) (invs : List (Inequality V)) → length rows ≡ 0 →
         with_inv j (open_place p rows invs) ≡ None
-    inv-early j [] invs h = refl
-    inv-early j (x ∷ rows) invs h = absurd (omega (arith, h))
+    inv_early j [] invs h = refl
+    inv_early j (x ∷ rows) invs h = absurd (omega (arith, h))
 
-    pub inv-more : (j : Inequality V) (rows : List (List V)) (invs : List (Inequality V)) → (length rows ≡ 0 → ⊥) →
+    pub inv_more : (j : Inequality V) (rows : List (List V)) (invs : List (Inequality V)) → (length rows ≡ 0 → ⊥) →
         length invs < most_lines → with_inv j (open_place p rows invs) ≡ Some (open_place p rows (invs ++ j ∷ []))
-    inv-more j [] invs h lt = absurd (h refl)
-    inv-more j (x ∷ rows) [] h lt = refl
-    inv-more j (x ∷ rows) (i ∷ invs) h lt =
+    inv_more j [] invs h lt = absurd (h refl)
+    inv_more j (x ∷ rows) [] h lt = refl
+    inv_more j (x ∷ rows) (i ∷ invs) h lt =
         ap (λ b. cond b (Some (InInvs p x rows i (invs ++ j ∷ []))) None) (few_true (suc (length invs)) lt)
 
-    pub inv-full : (j : Inequality V) (rows : List (List V)) (invs : List (Inequality V)) → most_lines ≤ length invs →
+    pub inv_full : (j : Inequality V) (rows : List (List V)) (invs : List (Inequality V)) → most_lines ≤ length invs →
         with_inv j (open_place p rows invs) ≡ None
-    inv-full j [] invs le = refl
-    inv-full j (x ∷ rows) [] le = absurd (omega (arith, le))
-    inv-full j (x ∷ rows) (i ∷ invs) le =
+    inv_full j [] invs le = refl
+    inv_full j (x ∷ rows) [] le = absurd (omega (arith, le))
+    inv_full j (x ∷ rows) (i ∷ invs) le =
         ap (λ b. cond b (Some (InInvs p x rows i (invs ++ j ∷ []))) None) (few_false (suc (length invs)) le)
 
     -- ---- which words may begin the next line
@@ -271,42 +271,42 @@ module _ {V : Type 0} where
     abbrev word : Bool → Result (Unit {0}) FaultKind
     word b = cond b (Ok tt) (Err TooManyLines)
 
-    pub may_row-first : (rows : List (List V)) (invs : List (Inequality V)) → length rows ≡ 0 →
+    pub may_row_first : (rows : List (List V)) (invs : List (Inequality V)) → length rows ≡ 0 →
         may_row (open_place p rows invs) ≡ Ok tt
-    may_row-first [] invs h = refl
-    may_row-first (x ∷ rows) invs h = absurd (omega (arith, h))
+    may_row_first [] invs h = refl
+    may_row_first (x ∷ rows) invs h = absurd (omega (arith, h))
 
-    pub may_row-late : (rows : List (List V)) (invs : List (Inequality V)) → (length rows ≡ 0 → ⊥) →
+    pub may_row_late : (rows : List (List V)) (invs : List (Inequality V)) → (length rows ≡ 0 → ⊥) →
         (length invs ≡ 0 → ⊥) → may_row (open_place p rows invs) ≡ Err Syntax
-    may_row-late [] invs h k = absurd (h refl)
-    may_row-late (x ∷ rows) [] h k = absurd (k refl)
-    may_row-late (x ∷ rows) (i ∷ invs) h k = refl
+    may_row_late [] invs h k = absurd (h refl)
+    may_row_late (x ∷ rows) [] h k = absurd (k refl)
+    may_row_late (x ∷ rows) (i ∷ invs) h k = refl
 
-    pub may_row-more : (rows : List (List V)) (invs : List (Inequality V)) → length invs ≡ 0 →
+    pub may_row_more : (rows : List (List V)) (invs : List (Inequality V)) → length invs ≡ 0 →
         length rows < most_lines → may_row (open_place p rows invs) ≡ Ok tt
-    may_row-more [] invs k lt = refl
-    may_row-more (x ∷ rows) [] k lt = ap word (few_true (suc (length rows)) lt)
-    may_row-more (x ∷ rows) (i ∷ invs) k lt = absurd (omega (arith, k))
+    may_row_more [] invs k lt = refl
+    may_row_more (x ∷ rows) [] k lt = ap word (few_true (suc (length rows)) lt)
+    may_row_more (x ∷ rows) (i ∷ invs) k lt = absurd (omega (arith, k))
 
-    pub may_row-full : (rows : List (List V)) (invs : List (Inequality V)) → length invs ≡ 0 →
+    pub may_row_full : (rows : List (List V)) (invs : List (Inequality V)) → length invs ≡ 0 →
         most_lines ≤ length rows → may_row (open_place p rows invs) ≡ Err TooManyLines
-    may_row-full [] invs k le = absurd (omega (arith, le))
-    may_row-full (x ∷ rows) [] k le = ap word (few_false (suc (length rows)) le)
-    may_row-full (x ∷ rows) (i ∷ invs) k le = absurd (omega (arith, k))
+    may_row_full [] invs k le = absurd (omega (arith, le))
+    may_row_full (x ∷ rows) [] k le = ap word (few_false (suc (length rows)) le)
+    may_row_full (x ∷ rows) (i ∷ invs) k le = absurd (omega (arith, k))
 
-    pub may_inv-first : (rows : List (List V)) (invs : List (Inequality V)) → length rows ≡ 0 →
+    pub may_inv_first : (rows : List (List V)) (invs : List (Inequality V)) → length rows ≡ 0 →
         may_inv (open_place p rows invs) ≡ Ok tt
-    may_inv-first [] invs h = refl
-    may_inv-first (x ∷ rows) invs h = absurd (omega (arith, h))
+    may_inv_first [] invs h = refl
+    may_inv_first (x ∷ rows) invs h = absurd (omega (arith, h))
 
-    pub may_inv-more : (rows : List (List V)) (invs : List (Inequality V)) → length invs < most_lines →
+    pub may_inv_more : (rows : List (List V)) (invs : List (Inequality V)) → length invs < most_lines →
         may_inv (open_place p rows invs) ≡ Ok tt
-    may_inv-more [] invs lt = refl
-    may_inv-more (x ∷ rows) [] lt = refl
-    may_inv-more (x ∷ rows) (i ∷ invs) lt = ap word (few_true (suc (length invs)) lt)
+    may_inv_more [] invs lt = refl
+    may_inv_more (x ∷ rows) [] lt = refl
+    may_inv_more (x ∷ rows) (i ∷ invs) lt = ap word (few_true (suc (length invs)) lt)
 
-    pub may_inv-full : (rows : List (List V)) (invs : List (Inequality V)) → (length rows ≡ 0 → ⊥) →
+    pub may_inv_full : (rows : List (List V)) (invs : List (Inequality V)) → (length rows ≡ 0 → ⊥) →
         most_lines ≤ length invs → may_inv (open_place p rows invs) ≡ Err TooManyLines
-    may_inv-full [] invs h le = absurd (h refl)
-    may_inv-full (x ∷ rows) [] h le = absurd (omega (arith, le))
-    may_inv-full (x ∷ rows) (i ∷ invs) h le = ap word (few_false (suc (length invs)) le)
+    may_inv_full [] invs h le = absurd (h refl)
+    may_inv_full (x ∷ rows) [] h le = absurd (omega (arith, le))
+    may_inv_full (x ∷ rows) (i ∷ invs) h le = ap word (few_false (suc (length invs)) le)

@@ -45,6 +45,7 @@ fn block_asserts(out: &mut Vec<u32>, block: &Block, number: u32) -> Result<(), N
 }
 
 // The numbers of the asserts of the program, in order.
+#[tactic(auto, using(crate::proofs::Numbers::program_numbers))]
 pub(crate) fn assert_numbers(alloc: Global, program: &Program) -> Result<Vec<u32>, NoMemory>
     ensures { IfOk result (λ numbers. numbers.items ≡ spec.assert_numbers program.now) }
 {

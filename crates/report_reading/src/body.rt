@@ -6,7 +6,7 @@ ghost use Rattle.report_texts.specs.Bodies.{body_at};
 ghost use Rattle.report_reading.specs.Progress.{progress_of, body_of, outcome_of};
 ghost use Rattle.report_reading.specs.Bodies.{step_at};
 
-use crate::lines::line;
+use crate::lines::read_line;
 use crate::progress::{Body, Outcome, Progress};
 use crate::steps::line_last;
 use prog_graph::Points;
@@ -16,6 +16,7 @@ use trop_spelling::Spelling;
 use trop_text::{FaultKind, Names, Pieces};
 
 // A line more. One with which no report has these lines is refused at its end.
+#[tactic(auto, using(crate::proofs::Bodies::step_taken, crate::proofs::Bodies::step_against, crate::proofs::Bodies::step_failed, crate::proofs::Bodies::line_shorter))]
 fn step<'a, S: Spelling>(
     alloc: Global,
     names: &Names,
@@ -30,7 +31,7 @@ fn step<'a, S: Spelling>(
         (pieces_left at.entry)) }
     ensures shorter { IfOk result (λ x. length (pieces_left x.1) < length (pieces_left at.entry)) }
 {
-    let (line, rest) = line(alloc, names, &progress.place, at)?;
+    let (line, rest) = read_line(alloc, names, &progress.place, at)?;
     match progress.after(alloc, points, numbers, line)? {
         Some(outcome) => Ok((outcome, rest)),
         None => Err(ReadErr::Wrong(FaultKind::ReportFault, line_last(at, rest))),

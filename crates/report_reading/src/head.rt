@@ -69,7 +69,8 @@ fn known<'a>(number: Number<'a>) -> Option<Version>
 }
 
 // The first line.
-pub(crate) fn version<'a>(at: Pieces<'a>) -> Result<(Version, Pieces<'a>), ReadErr<'a>>
+#[tactic(auto, using(crate::proofs::Versions::version_found, crate::proofs::Versions::version_other, crate::proofs::Versions::version_failed))]
+pub(crate) fn read_version<'a>(at: Pieces<'a>) -> Result<(Version, Pieces<'a>), ReadErr<'a>>
     ensures { Gives (λ x. (version_of x.0, pieces_left x.1)) result (spec.version_at (pieces_left at.entry)) }
 {
     let (number, rest) = report_line(at)?;
@@ -154,7 +155,10 @@ fn narrow_line<'a>(version: Version, at: Pieces<'a>) -> Result<(u64, Pieces<'a>)
 
 // The lines behind the first, with that of the word `program`.
 #[tactic(auto, unfolding(trop_grammar::specs::Reading::read_then, trop_grammar::specs::Reading::gives, report_texts::specs::Heads::head_at))]
-pub(crate) fn head<'a>(version: Version, at: Pieces<'a>) -> Result<(Head, Pieces<'a>), ReadErr<'a>>
+pub(crate) fn read_head<'a>(
+    version: Version,
+    at: Pieces<'a>,
+) -> Result<(Head, Pieces<'a>), ReadErr<'a>>
     ensures gives { Gives (λ x. (head_of x.0, pieces_left x.1)) result
         (spec.head_at (version_of version) (pieces_left at.entry)) }
     ensures delay { IfOk result (λ x. x.0.delay ≤ 1000) }

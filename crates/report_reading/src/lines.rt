@@ -193,6 +193,7 @@ fn entries<'a, S: Spelling>(
 }
 
 // The row of these elements with the first in front, in normal form; where all are the zero, as it is.
+#[tactic(auto, using(crate::proofs::Rows::normalised_same, crate::proofs::Rows::normalised_bottom))]
 fn normal_row<S: Scalar>(alloc: Global, first: S, entries: Vec<S>) -> Result<Row<S>, AllocError>
     requires few { length entries.items ≤ 63 }
     requires sizes { row_size S.ring (first ∷ entries.items) ≤ 2 ^ 60 }
@@ -267,7 +268,7 @@ fn line_rest<'a, S: Spelling>(
 
 /// A line that may stand at the place.
 #[tactic(auto, unfolding(trop_grammar::specs::Reading::read_then, report_texts::specs::LineTexts::line_at))]
-pub(crate) fn line<'a, S: Spelling>(
+pub(crate) fn read_line<'a, S: Spelling>(
     alloc: Global,
     names: &Names,
     place: &Place<S>,

@@ -93,6 +93,7 @@ impl<S: Scalar> Place<S> {
 
 impl<S: Scalar> Block<S> {
     // Whether a row may begin the next line.
+    #[tactic(auto, using(crate::proofs::Transitions::may_row_first, crate::proofs::Transitions::may_row_late, crate::proofs::Transitions::may_row_more, crate::proofs::Transitions::may_row_full))]
     fn may_row(&self) -> Result<(), FaultKind>
         ensures { Passed (λ u. tt) result
             (spec.may_row (open_place (point_of self.now.point) self.now.rows.items self.now.invs.items)) }
@@ -109,6 +110,7 @@ impl<S: Scalar> Block<S> {
     }
 
     // Whether an inequality may begin the next line.
+    #[tactic(auto, using(crate::proofs::Transitions::may_inv_first, crate::proofs::Transitions::may_inv_more, crate::proofs::Transitions::may_inv_full))]
     fn may_inv(&self) -> Result<(), FaultKind>
         ensures { Passed (λ u. tt) result
             (spec.may_inv (open_place (point_of self.now.point) self.now.rows.items self.now.invs.items)) }

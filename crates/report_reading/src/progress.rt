@@ -83,6 +83,7 @@ fn begun<S: Scalar>(alloc: Global, point: Point) -> Block<S>
 }
 
 // The block of the next point, behind these blocks.
+#[tactic(auto, using(crate::proofs::Transitions::opened_other, crate::proofs::Transitions::opened_none, crate::proofs::Transitions::opened_next))]
 fn opened<S: Scalar>(
     alloc: Global,
     points: &Points,
@@ -107,6 +108,7 @@ fn opened<S: Scalar>(
 }
 
 // The first verdict, behind these blocks.
+#[tactic(auto, using(crate::proofs::Transitions::first_early, crate::proofs::Transitions::first_none, crate::proofs::Transitions::first_next))]
 fn first_judged<S: Scalar>(
     alloc: Global,
     points: &Points,
@@ -131,6 +133,7 @@ fn first_judged<S: Scalar>(
 }
 
 // A verdict behind others.
+#[tactic(auto, using(crate::proofs::Transitions::more_none, crate::proofs::Transitions::more_next))]
 fn more_judged<S: Scalar>(
     numbers: &[u32],
     blocks: Vec<Block<S>>,
@@ -154,6 +157,7 @@ fn more_judged<S: Scalar>(
 }
 
 // A row more in the block.
+#[tactic(auto, using(crate::proofs::Transitions::row_first, crate::proofs::Transitions::row_more, crate::proofs::Transitions::row_late, crate::proofs::Transitions::row_full))]
 fn with_row<S: Scalar>(
     alloc: Global,
     block: Block<S>,
@@ -177,6 +181,7 @@ fn with_row<S: Scalar>(
 }
 
 // An inequality more in the block.
+#[tactic(auto, using(crate::proofs::Transitions::inv_early, crate::proofs::Transitions::inv_more, crate::proofs::Transitions::inv_full))]
 fn with_inv<S: Scalar>(block: Block<S>, inv: Ineq<S>) -> Result<Option<Place<S>>, NoMemory>
     ensures { IfOk result (λ o. over place_of o ≡ spec.with_inv inv
         (open_place (point_of block.point) block.rows.items block.invs.items)) }
@@ -255,6 +260,7 @@ impl<S: Scalar> Progress<S> {
     }
 
     // The blocks with that which the place ends, and the verdicts; none where a block has no line yet.
+    #[tactic(auto, using(crate::proofs::Transitions::ended_outside, crate::proofs::Transitions::ended_judging, crate::proofs::Transitions::ended_open, crate::proofs::Transitions::ended_opened))]
     fn ended(self, alloc: Global) -> Result<Option<Body<S>>, NoMemory>
         ensures { IfOk result (λ o. over body_of o ≡ ended_in (blocks_of self.blocks.items) (place_of self.place)) }
     {
@@ -283,6 +289,7 @@ impl<S: Scalar> Progress<S> {
     }
 
     // An `at` line more.
+    #[tactic(auto, using(crate::proofs::Transitions::at_judging, crate::proofs::Transitions::at_some, crate::proofs::Transitions::at_none))]
     fn with_at(
         self,
         alloc: Global,
@@ -303,6 +310,7 @@ impl<S: Scalar> Progress<S> {
     }
 
     // A verdict more.
+    #[tactic(auto, using(crate::proofs::Transitions::assert_judging, crate::proofs::Transitions::assert_some, crate::proofs::Transitions::assert_none))]
     fn with_verdict(
         self,
         alloc: Global,
@@ -326,6 +334,7 @@ impl<S: Scalar> Progress<S> {
     }
 
     // A verdict behind others.
+    #[tactic(auto, using(crate::proofs::Transitions::verdict_open))]
     fn with_further_verdict(
         self,
         numbers: &[u32],
@@ -345,6 +354,7 @@ impl<S: Scalar> Progress<S> {
     }
 
     // The line `unreachable` more.
+    #[tactic(auto, using(crate::proofs::Transitions::shut_first, crate::proofs::Transitions::shut_late))]
     fn with_shut(self) -> Option<Progress<S>>
         ensures { over progress_of result ≡ spec.moved (blocks_of self.blocks.items) (spec.shut (place_of self.place)) }
     {
@@ -393,6 +403,7 @@ impl<S: Scalar> Progress<S> {
     }
 
     // The whole, where the last `end` may follow.
+    #[tactic(auto, using(crate::proofs::Transitions::last_some, crate::proofs::Transitions::last_short, crate::proofs::Transitions::last_none))]
     fn last(
         self,
         alloc: Global,

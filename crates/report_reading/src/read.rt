@@ -21,7 +21,7 @@ ghost use Rattle.report_reading.specs.Outcomes.{IsReportRefusal};
 
 use crate::asserts::assert_numbers;
 use crate::body::body;
-use crate::head::{Head, Mode, head, version};
+use crate::head::{Head, Mode, read_head, read_version};
 use crate::part::program_part;
 use crate::parts::{parts, verdicts};
 use crate::progress::Body;
@@ -52,8 +52,8 @@ fn opening<'a>(alloc: Global, at: Pieces<'a>) -> Result<((Head, Program), Pieces
     ensures delay { IfOk result (λ x. x.0.0.delay ≤ most_delay) }
     ensures narrow { IfOk result (λ x. x.0.0.narrow ≤ most_narrow) }
 {
-    let (version, rest) = version(at)?;
-    let (head, rest) = head(version, rest)?;
+    let (version, rest) = read_version(at)?;
+    let (head, rest) = read_head(version, rest)?;
     let (program, rest) = program_part(alloc, rule(head.mode), rest)?;
     let rest = line_end(rest)?;
     Ok(((head, program), rest))
