@@ -48,7 +48,7 @@ pub(crate) fn program_part<'a>(
     rule: AssertRule,
     at: Pieces<'a>,
 ) -> Result<(Program, Pieces<'a>), ReadErr<'a>>
-    requires { pieces_left at.entry ≡ pieces_from (tokens_left at.entry) 0 }
+    requires { pieces_left at ≡ pieces_from (tokens_left at) 0 }
     ensures { Gives (λ x. (x.0, pieces_left x.1)) result (program_part_at (rule_of rule) (pieces_left at.entry)) }
 {
     match ended(alloc, rule, At::begin(at.lexer())) {
