@@ -1,6 +1,6 @@
 -- Rows that are read: their sizes and their normal forms.
 use Rattle.std.proofs.Common.{◌≡◌, ◌≢◌, ◌≤◌, ℕ, zero, suc, Bool, true, false, cond, Option, Some, None, List, [], ◌∷◌, length, Ok, refl, sym, ap, ◌∙◌, arith}
-use Rattle.std.specs.Prelude.{is_some}
+use Rattle.std.specs.Prelude.{is_some, OnTrue, OnFalse}
 use Rattle.trop_theory.specs.Semiring.{Semiring, SemiringLaws}
 use Rattle.trop_theory.specs.Numbers.{Numbering, NumberLaws}
 use Rattle.trop_theory.specs.Vectors.{entry, scaled, row_size, bottom}
@@ -40,13 +40,13 @@ module _ {V : Type 0} (R : Semiring V) (N : Numbering V) (laws : SemiringLaws R)
 
   none_leads : (x : List V) → leading N x ≡ None → (i : ℕ) → entry R x i ≡ R.zero
   none_leads [] e i = refl
-  none_leads (a ∷ x) e i = at (is_some (N.to a)) refl e i
+  none_leads (a ∷ x) e i = at (λ q j. none_leads x q j) (is_some (N.to a)) refl e i
     where
-      at : (b : Bool) → is_some (N.to a) ≡ b → cond b (Some a) (leading N x) ≡ None → (i : ℕ) →
-          entry R (a ∷ x) i ≡ R.zero
-      at true k q i = absurd cc
-      at false k q zero = zero_at a k
-      at false k q (suc i) = none_leads x q i
+      at : (leading N x ≡ None → (j : ℕ) → entry R x j ≡ R.zero) → (b : Bool) → is_some (N.to a) ≡ b →
+          cond b (Some a) (leading N x) ≡ None → (i : ℕ) → entry R (a ∷ x) i ≡ R.zero
+      at more true k q i = absurd cc
+      at more false k q zero = zero_at a k
+      at more false k q (suc i) = more q i
 
   -- the multiple in normal form that the theory of texts names is the one that a row is brought to
   pub normalised_same : (x y : List V) → Normalises R x y → normalised R N x ≡ y
@@ -68,13 +68,21 @@ module _ {V : Type 0} (R : Semiring V) (N : Numbering V) (laws : SemiringLaws R)
           m.multiple ∙ ap (scaled R m.factor) (sym back) ∙ scaled-scaled laws m.factor (R.inverse k.factor) z in
           sym (same_from_multiple laws 0 y z (R.times m.factor (R.inverse k.factor)) m.normal k.normal multiple)
 
+  zero_leads : (x : List V) → ((i : ℕ) → entry R x i ≡ R.zero) → leading N x ≡ None
+  zero_leads [] h = refl
+  zero_leads (a ∷ x) h = ap (λ b. cond b (Some a) (leading N x))
+      (ap (λ z. is_some (N.to z)) (h 0) ∙ ap is_some ((numbers_are.none R.zero).1 refl))
+      ∙ zero_leads x (λ i. h (suc i))
+
   -- one that is all the zero stays
   pub normalised_bottom : (x : List V) → x ≡ bottom R (length x) → normalised R N x ≡ x
-  normalised_bottom x e = ap (λ o. divided R o x) (leads x (λ i. ap (λ (z : List V). entry R z i) e
+  normalised_bottom x e = ap (λ o. divided R o x) (zero_leads x (λ i. ap (λ (z : List V). entry R z i) e
       ∙ entry-bottom R (length x) i))
-    where
-      leads : (x : List V) → ((i : ℕ) → entry R x i ≡ R.zero) → leading N x ≡ None
-      leads [] h = refl
-      leads (a ∷ x) h = ap (λ b. cond b (Some a) (leading N x))
-          (ap (λ z. is_some (N.to z)) (h 0) ∙ ap is_some ((numbers_are.none R.zero).1 refl))
-          ∙ leads x (λ i. h (suc i))
+
+  -- what `normalise` leaves of the row
+  pub normalised_left : (b : Bool) (old new row : List V) → OnTrue b (Normalises R old new) →
+      OnFalse b (old ≡ bottom R (length old)) → OnFalse b (new ≡ old) → old ≡ row → new ≡ normalised R N row
+  normalised_left true old new row yes no same e =
+      sym (normalised_same old new yes) ∙ ap (normalised R N) e
+  normalised_left false old new row yes no same e =
+      same ∙ sym (normalised_bottom old no) ∙ ap (normalised R N) e

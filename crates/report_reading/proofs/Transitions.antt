@@ -1,5 +1,5 @@
 -- What one line more comes to, by the cases of the reader.
-use Rattle.std.proofs.Common.{◌≡◌, ◌<◌, ◌≤◌, ◌&&◌, ℕ, zero, suc, Bool, true, false, cond, Option, Some, None, List, [], ◌∷◌, ◌++◌, map, length, refl, sym, ap, subst, ◌∙◌, arith, eqb-true}
+use Rattle.std.proofs.Common.{◌≡◌, ◌<◌, ◌≤◌, ◌&&◌, ℕ, zero, suc, Bool, true, false, cond, Option, Some, None, List, [], ◌∷◌, ◌++◌, map, length, refl, sym, ap, subst, ◌∙◌, arith, eqb-true, lt-ltb, le-ltb}
 use Rattle.std.specs.Prelude.{nat_eq, nat_lt, slice_get, Result, Ok, Err}
 use Rattle.trop_theory.specs.Inequalities.{Inequality}
 use Rattle.trop_text.specs.declared.fault.FaultKind.{FaultKind}
@@ -10,6 +10,16 @@ use Rattle.report_texts.specs.Lines.{Block, Body, Judged}
 use Rattle.report_texts.specs.Progress.{Place, Outside, Opened, Shut, InRows, InInvs, Judging, Progress, block, ending, is_label, is_number, moved, opened, judged, first_judged, shut, with_row, with_inv, may_row, may_inv, behind, after_at, after_assert, verdicts, complete, final}
 use Rattle.report_reading.specs.Places.{open_place, judges}
 use Rattle.report_reading.specs.Progress.{ended_in, more_judged, after_verdict}
+
+few_true : (n : ℕ) → n < most_lines → nat_lt n most_lines ≡ true
+few_true n h = lt-ltb n most_lines h
+
+few_false : (n : ℕ) → most_lines ≤ n → nat_lt n most_lines ≡ false
+few_false n h = le-ltb n most_lines h
+
+-- what is said of one more line
+abbrev word : Bool → Result (Unit {0}) FaultKind
+word b = cond b (Ok tt) (Err TooManyLines)
 
 module _ {V : Type 0} where
   -- ---- the block of the next point
@@ -178,24 +188,33 @@ module _ {V : Type 0} where
 
   -- ---- the last line
 
+  module _ (points : List Point) (numbers : List ℕ) (js : List Judged) (bs : List (Block V)) where
+    abbrev wholly : Bool → Option (Body V)
+    wholly c = cond c (Some (record { blocks = bs; judged = js })) None
+
+    pub complete_all : nat_eq (length bs) (length points) ≡ true → nat_eq (length js) (length numbers) ≡ true →
+        complete points numbers js bs ≡ Some (record { blocks = bs; judged = js })
+    complete_all h k = ap (λ c. wholly (c && nat_eq (length js) (length numbers))) h ∙ ap wholly k
+
+    pub complete_early : nat_eq (length bs) (length points) ≡ false → complete points numbers js bs ≡ None
+    complete_early h = ap (λ c. wholly (c && nat_eq (length js) (length numbers))) h
+
+    pub complete_short : nat_eq (length bs) (length points) ≡ true → nat_eq (length js) (length numbers) ≡ false →
+        complete points numbers js bs ≡ None
+    complete_short h k = ap (λ c. wholly (c && nat_eq (length js) (length numbers))) h ∙ ap wholly k
+
   module _ (points : List Point) (numbers : List ℕ) (s : Progress V) where
-    abbrev all : Body V → Bool
-    all b = nat_eq (length b.blocks) (length points) && nat_eq (length b.judged) (length numbers)
-
-    last_at : (o : Option (List (Block V))) (js : List Judged) (b : Body V) (c : Bool) →
-        Some b ≡ behind s.blocks o (ended_body js) → all b ≡ c →
-        behind s.blocks o (complete points numbers js) ≡ cond c (Some b) None
-    last_at None js b c e h = absurd cc
-    last_at (Some es) js b c e h =
+    last_at : (o : Option (List (Block V))) (js : List Judged) (b : Body V) →
+        Some b ≡ behind s.blocks o (ended_body js) →
+        behind s.blocks o (complete points numbers js) ≡ complete points numbers b.judged b.blocks
+    last_at None js b e = absurd cc
+    last_at (Some es) js b e =
         let k : b ≡ record { blocks = s.blocks ++ es; judged = js } = cc in
-        ap (λ (z : Body V). cond (all z) (Some z) None) (sym k) ∙ ap (λ d. cond d (Some b) None) h
+        ap (λ (z : Body V). complete points numbers z.judged z.blocks) (sym k)
 
-    pub last_some : (b : Body V) → Some b ≡ ended_in s.blocks s.place → all b ≡ true →
-        final points numbers s ≡ Some b
-    last_some b e h = last_at (ending s.place) (verdicts s.place) b true e h
-
-    pub last_short : (b : Body V) → Some b ≡ ended_in s.blocks s.place → all b ≡ false → final points numbers s ≡ None
-    last_short b e h = last_at (ending s.place) (verdicts s.place) b false e h
+    pub last_some : (b : Body V) → Some b ≡ ended_in s.blocks s.place →
+        final points numbers s ≡ complete points numbers b.judged b.blocks
+    last_some b e = last_at (ending s.place) (verdicts s.place) b e
 
     pub last_none : None ≡ ended_in s.blocks s.place → final points numbers s ≡ None
     last_none e = behind_none s.blocks (ending s.place) (verdicts s.place)
@@ -214,12 +233,6 @@ module _ {V : Type 0} where
     shut_late [] invs h = absurd (h refl)
     shut_late (x ∷ rows) [] h = refl
     shut_late (x ∷ rows) (i ∷ invs) h = refl
-
-    few_true : (n : ℕ) → n < most_lines → nat_lt n most_lines ≡ true
-    few_true n h = search h
-
-    few_false : (n : ℕ) → most_lines ≤ n → nat_lt n most_lines ≡ false
-    few_false n h = search h
 
     pub row_first : (y : List V) (rows : List (List V)) (invs : List (Inequality V)) → length rows ≡ 0 →
         with_row y (open_place p rows invs) ≡ Some (open_place p (y ∷ []) [])
@@ -267,9 +280,6 @@ module _ {V : Type 0} where
         ap (λ b. cond b (Some (InInvs p x rows i (invs ++ j ∷ []))) None) (few_false (suc (length invs)) le)
 
     -- ---- which words may begin the next line
-
-    abbrev word : Bool → Result (Unit {0}) FaultKind
-    word b = cond b (Ok tt) (Err TooManyLines)
 
     pub may_row_first : (rows : List (List V)) (invs : List (Inequality V)) → length rows ≡ 0 →
         may_row (open_place p rows invs) ≡ Ok tt

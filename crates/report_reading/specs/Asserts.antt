@@ -1,19 +1,6 @@
--- The numbers of the asserts of a program by recursion on it.
-use Rattle.std.specs.Prelude.{ℕ, ◌+◌, List, [], ◌∷◌, ◌++◌}
-use Rattle.prog_theory.specs.Statements.{Stmt, Set, Havoc, Assume, Assert, If, While, Skip, Block, Empty, Then}
-use Rattle.prog_theory.specs.Numbering.{count, counts}
+-- The numbers of asserts that the reader holds.
+use Rattle.std.specs.Prelude.{ℕ, List, map}
+use Rattle.prog_asserts.specs.declared.assertion.Assertion.{Assertion}
 
--- the first statement has the number k
-abbrev mutual
-  pub numbers_st : ℕ → Stmt → List ℕ
-  numbers_st k (If c a b) = numbers_bl (k + 1) a ++ numbers_bl (k + 1 + counts a) b
-  numbers_st k (While c a) = numbers_bl (k + 1) a
-  numbers_st k (Assert c) = k ∷ []
-  numbers_st k (Set x t) = []
-  numbers_st k (Havoc x) = []
-  numbers_st k (Assume c) = []
-  numbers_st k Skip = []
-
-  pub numbers_bl : ℕ → Block → List ℕ
-  numbers_bl k Empty = []
-  numbers_bl k (Then st b) = numbers_st k st ++ numbers_bl (k + count st) b
+abbrev pub numbers_in : List Assertion → List ℕ
+numbers_in xs = map (λ (a : Assertion). a.number) xs

@@ -193,7 +193,6 @@ fn entries<'a, S: Spelling>(
 }
 
 // The row of these elements with the first in front, in normal form; where all are the zero, as it is.
-#[tactic(auto, using(crate::proofs::Rows::normalised_same, crate::proofs::Rows::normalised_bottom))]
 fn normal_row<S: Scalar>(alloc: Global, first: S, entries: Vec<S>) -> Result<Row<S>, AllocError>
     requires few { length entries.items ≤ 63 }
     requires sizes { row_size S.ring (first ∷ entries.items) ≤ 2 ^ 60 }

@@ -57,7 +57,7 @@ pub(crate) fn parts<S: Scalar>(
 ) -> Result<Vec<PointPart<S>>, NoMemory>
     requires at_least { 1 ≤ n }
     requires at_most { n ≤ 64 }
-    requires kept { All (IsPartKept S.ring S.numbering n) (map lines.Block.part (blocks_of blocks.items)) }
+    requires kept { All (λ b. IsPartKept S.ring S.numbering n (lines.Block.part (block_of b))) blocks.items }
     ensures kept { IfOk result (λ ps. All (IsPointKept S.ring S.numbering n) ps.items) }
     ensures value { IfOk result (λ ps. parts_of ps.items ≡ map lines.Block.part (blocks_of blocks.items)) }
 {

@@ -228,6 +228,21 @@ fn with_block<S: Scalar>(
     })
 }
 
+// The whole, where it has all blocks and all verdicts.
+#[tactic(auto, using(crate::proofs::Transitions::complete_all, crate::proofs::Transitions::complete_early, crate::proofs::Transitions::complete_short))]
+fn completed<S: Scalar>(points: &Points, numbers: &[u32], body: Body<S>) -> Option<Body<S>>
+    ensures { over body_of result ≡ spec.complete points.now numbers.now (map judged_of body.judged.items)
+        (blocks_of body.blocks.items) }
+{
+    if body.blocks.len() != points.len() {
+        return None;
+    }
+    if body.judged.len() != numbers.len() {
+        return None;
+    }
+    Some(body)
+}
+
 // That more lines follow.
 fn further<S: Scalar>(progress: Option<Progress<S>>) -> Option<Outcome<S>>
     ensures { over outcome_of result ≡ bodies.further (over progress_of progress) }
@@ -403,7 +418,7 @@ impl<S: Scalar> Progress<S> {
     }
 
     // The whole, where the last `end` may follow.
-    #[tactic(auto, using(crate::proofs::Transitions::last_some, crate::proofs::Transitions::last_short, crate::proofs::Transitions::last_none))]
+    #[tactic(auto, using(crate::proofs::Transitions::last_some, crate::proofs::Transitions::last_none))]
     fn last(
         self,
         alloc: Global,
@@ -413,13 +428,7 @@ impl<S: Scalar> Progress<S> {
         ensures { IfOk result (λ o. over body_of o ≡ spec.final points.now numbers.now (progress_of self)) }
     {
         match self.ended(alloc)? {
-            Some(body) => {
-                if body.blocks.len() == points.len() && body.judged.len() == numbers.len() {
-                    Ok(Some(body))
-                } else {
-                    Ok(None)
-                }
-            }
+            Some(body) => Ok(completed(points, numbers, body)),
             None => Ok(None),
         }
     }

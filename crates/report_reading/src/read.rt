@@ -1,5 +1,5 @@
 //! Whole reports.
-ghost use Rattle.std.specs.Prelude.{◌≡◌, ◌≤◌, ◌+◌, ◌^◌, [], All, IfOk, IfErr, length, map};
+ghost use Rattle.std.specs.Prelude.{◌≡◌, ◌≤◌, ◌+◌, ◌^◌, [], All, IfOk, IfErr, length};
 ghost use Rattle.prog_theory.specs.Graph.{points};
 ghost use Rattle.prog_theory.specs.Named.{nameless};
 ghost use Rattle.prog_theory.specs.ControlGraphs.{graph_of};
@@ -15,7 +15,8 @@ ghost use Rattle.report_value.specs.Kept.{IsPartKept};
 ghost use Rattle.report_value.specs.Texts.{text_of};
 ghost use Rattle.prog_reading.specs.Rules.{rule_of};
 ghost use Rattle.report_reading.specs.Heads.{mode_of, head_of};
-ghost use Rattle.report_reading.specs.Progress.{blocks_of, body_of};
+ghost use Rattle.report_reading.specs.Places.{block_of};
+ghost use Rattle.report_reading.specs.Progress.{body_of};
 ghost use Rattle.report_reading.specs.Wholes.{opening_at, lines_at, report_over};
 ghost use Rattle.report_reading.specs.Outcomes.{IsReportRefusal};
 
@@ -71,7 +72,7 @@ fn all_lines<'a, S: Spelling>(
     ensures { Gives (λ x. (body_of x.0, pieces_left x.1)) result
         (lines_at S.KIND S.ring S.numbering program.now (pieces_left at.entry)) }
 {
-    let numbers = assert_numbers(alloc, program)?;
+    let numbers = assert_numbers(alloc, program, graph)?;
     let (body, rest) = body(
         alloc,
         program.names(),
@@ -95,8 +96,8 @@ fn report<S: Scalar>(
     requires narrow { head.narrow ≤ most_narrow }
     requires passes { head.passes ≤ most_passes }
     requires graph { graph ≡ graph_of (nameless program) }
-    requires parts { All (IsPartKept S.ring S.numbering (length program.names + 1))
-        (map lines.Block.part (blocks_of body.blocks.items)) }
+    requires parts { All (λ b. IsPartKept S.ring S.numbering (length program.names + 1)
+        (lines.Block.part (block_of b))) body.blocks.items }
     requires points { length body.blocks.items ≡ length (points (nameless program)) }
     requires asserts { length body.judged.items ≡ length (numbers_of program) }
     ensures { IfOk result (λ r. r ≡ report_over (head_of head) program (body_of body)) }
