@@ -20,10 +20,10 @@ use Rattle.report_texts.proofs.ProgramLaws.{plain_counted}
 use Rattle.report_reading.specs.Parts.{IsPlain}
 
 -- the pieces with which the reader of a program begins
-pub begun_is : (start ts : List Piece) (begun : List Counted) (tokens read : List Tok) →
+pub begun_is : (ts : List Piece) (begun : List Counted) (tokens read : List Tok) →
     begun ≡ counted nothing_before (pieces_from read 0) → read ≡ tokens → ts ≡ pieces_from tokens 0 →
     begun ≡ part_pieces ts
-begun_is start ts begun tokens read e k h =
+begun_is ts begun tokens read e k h =
     e ∙ ap (λ (z : List Tok). part_pieces (pieces_from z 0)) k ∙ ap part_pieces (sym h)
 
 module _ (rule : AssertRule) (ts : List Piece) (begun : List Counted) (same : begun ≡ part_pieces ts) where
@@ -41,10 +41,10 @@ module _ (rule : AssertRule) (ts : List Piece) (begun : List Counted) (same : be
 
   failed : (e : ProgramErr) (told : ReadErr) (v : Reading Counted FaultKind Named) → counted_gives.Fails e v →
       IsPlain e told → Fails told (uncounted v)
-  failed programs.NoMemory told v f k = subst (λ z. Fails z (uncounted v)) (sym k) tt
+  failed programs.NoMemory told v f k = subst (λ z. Fails {A = Named} z (uncounted v)) (sym k) tt
   failed (programs.Wrong what at) told (Ok x) f k = absurd f
   failed (programs.Wrong what at) told (Err miss) f k =
-      subst (λ z. Fails z (uncounted (Err miss))) (sym k) (
+      subst (λ z. Fails {A = Named} z (uncounted {A = Named} (Err miss))) (sym k) (
         f.0,
         sym (plain_counted (before_of at.before) (pieces_left at.pieces)) ∙ ap plain f.1,
       )

@@ -1,6 +1,7 @@
 -- Rows that are read: their sizes and their normal forms.
 use Rattle.std.proofs.Common.{◌≡◌, ◌≢◌, ◌≤◌, ℕ, zero, suc, Bool, true, false, cond, Option, Some, None, List, [], ◌∷◌, length, Ok, refl, sym, ap, ◌∙◌, arith}
-use Rattle.std.specs.Prelude.{is_some, OnTrue, OnFalse}
+use Rattle.std.specs.Prelude.{is_some}
+use Rattle.std.specs.Bool.{OnTrue, OnFalse}
 use Rattle.trop_theory.specs.Semiring.{Semiring, SemiringLaws}
 use Rattle.trop_theory.specs.Numbers.{Numbering, NumberLaws}
 use Rattle.trop_theory.specs.Vectors.{entry, scaled, row_size, bottom}

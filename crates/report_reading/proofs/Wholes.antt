@@ -1,5 +1,5 @@
 -- A whole report from its parts, and what the reader promises from what it gives.
-use Rattle.std.proofs.Common.{◌≡◌, ◌<◌, ◌+◌, ℕ, zero, suc, List, [], ◌∷◌, length, map, All, Result, Ok, Err, refl, sym, ap, subst, ◌∙◌, arith}
+use Rattle.std.proofs.Common.{◌≡◌, ◌≤◌, ◌<◌, ◌+◌, ℕ, zero, suc, Bool, List, [], ◌∷◌, length, map, All, Result, Ok, Err, refl, sym, ap, subst, ◌∙◌, arith}
 use Rattle.std.proofs.lemmas.List.{length-map}
 use Rattle.trop_grammar.specs.Reading.{Reading, Miss, go_on, read_then, gives, token_at}
 use Rattle.trop_text.specs.Pieces.{Piece, pieces_left, pieces_of}
@@ -28,8 +28,12 @@ use Rattle.report_texts.proofs.ReadReports.{report_kept}
 use Rattle.cone_reports.specs.Reports.{Part}
 use Rattle.report_value.specs.Kept.{IsPartKept}
 use Rattle.report_value.specs.declared.report.AnyReport.{AnyReport}
-use Rattle.report_value.specs.Texts.{text_of}
-use Rattle.report_reading.specs.Wholes.{opening_at, lines_at}
+use Rattle.report_value.specs.Texts.{in_mode, text_of}
+use Rattle.report_value.specs.Views.{ReportOver}
+use Rattle.report_reading.specs.declared.progress.Body as code
+use Rattle.report_reading.specs.Places.{block_of, judged_of}
+use Rattle.report_reading.specs.Progress.{blocks_of, body_of}
+use Rattle.report_reading.specs.Wholes.{opening_at, lines_at, report_over}
 use Rattle.report_reading.specs.Outcomes.{IsReportRefusal}
 
 -- ---- the parts
@@ -100,6 +104,17 @@ opening_faulty ts e f = at (opening_at ts) refl f
     at v q f = subst (Fails e) (sym (report_opened ts ∙ ap (λ (z : Read (Head × Named)). go_on z behind_opening) q))
         (failed e v f)
 
+-- a report with these parts and verdicts
+abbrev pub report_with : {V : Type 0} → Head → Named → List (Part V) → List Bool → ReportOver V
+report_with h p parts verdicts = record {
+  delay = h.delay;
+  narrow = h.narrow;
+  passes = h.passes;
+  program = p;
+  parts = parts;
+  verdicts = verdicts;
+}
+
 -- ---- what is kept
 
 each_all : {A : Type 0} (P : A → Type 0) (xs : List A) → Each P xs → All P xs
@@ -123,32 +138,75 @@ parts_kept : (mode : Mode) (n : ℕ) (xs : List (Part Element)) → Each (IsPart
 parts_kept mode n [] h = tt
 parts_kept mode n (x ∷ xs) h = (part_kept mode n x h.0, parts_kept mode n xs h.1)
 
--- what the making of a report asks
-pub record IsMade (h : Head) (p : Named) (b : Body Element) : Type 0 where
-  pub passes : Head.passes h < suc most_passes
-  pub parts : All (IsPartKept (ring_of h.mode) numbering (length p.names + 1))
-      (map (λ (c : Block Element). c.part) b.blocks)
-  pub points_are : length b.blocks ≡ length (points (nameless p))
-  pub asserts_are : length b.judged ≡ length (assert_numbers p)
+all_unmapped : {A B : Type 0} (P : B → Type 0) (f : A → B) (xs : List A) → All P (map f xs) → All (λ x. P (f x)) xs
+all_unmapped P f [] h k d lt = absurd (omega (arith, lt))
+all_unmapped P f (x ∷ xs) h zero d lt = h 0 (f x) (omega arith)
+all_unmapped P f (x ∷ xs) h (suc k) d lt =
+    all_unmapped P f xs (λ j c lj. h (suc j) c (omega (arith, lj))) k d (omega (arith, lt))
 
-pub report_made : (bytes : List ℕ) (h : Head) (p : Named) (b : Body Element) (rest : List Piece) →
-    report_at (pieces_of bytes) ≡ Ok (report h p b, rest) → IsMade h p b
-report_made bytes h p b rest e =
-    let k = report_kept bytes (report h p b) (ap (answer bytes) e) in
-    let n = k.passes in
+-- what the making of a report asks
+pub record IsAsked {Store : Type 0} (mode : Mode) (h : Head) (p : Named) (b : code.Body Element Store) : Type 0 where
+  pub passes : h.passes ≤ most_passes
+  pub parts : All (λ c. IsPartKept (ring_of mode) numbering (length p.names + 1) (Block.part (block_of c)))
+      b.blocks.items
+  pub points_are : length b.blocks.items ≡ length (points (nameless p))
+  pub asserts_are : length b.judged.items ≡ length (assert_numbers p)
+
+report_asked : {Store : Type 0} (bytes : List ℕ) (h : Head) (p : Named) (b : code.Body Element Store)
+    (rest : List Piece) → report_at (pieces_of bytes) ≡ Ok (report h p (body_of b), rest) → IsAsked h.mode h p b
+report_asked bytes h p b rest e =
+    let r = report h p (body_of b) in
+    let n = length p.names + 1 in
+    let k = report_kept bytes r (ap (answer bytes) e) in
+    let P : Part Element → Type 0 = IsPartKept (ring_of h.mode) numbering n in
+    let all = each_all P r.parts (parts_kept h.mode n r.parts k.parts) in
     record {
-      passes = omega (arith, n);
-      parts = each_all (IsPartKept (ring_of h.mode) numbering (length p.names + 1))
-          (map (λ (c : Block Element). c.part) b.blocks)
-          (parts_kept h.mode (length p.names + 1) (map (λ (c : Block Element). c.part) b.blocks) k.parts);
-      points_are = sym (length-map b.blocks (λ (c : Block Element). c.part)) ∙ k.points_are;
-      asserts_are = sym (length-map b.judged (λ (j : Judged). j.proved)) ∙ k.asserts_are;
+      passes = k.passes;
+      parts = all_unmapped (λ (c : Block Element). P c.part) block_of b.blocks.items
+          (all_unmapped P (λ (c : Block Element). c.part) (blocks_of b.blocks.items) all);
+      points_are = sym (length-map b.blocks.items block_of)
+          ∙ sym (length-map (blocks_of b.blocks.items) (λ (c : Block Element). c.part)) ∙ k.points_are;
+      asserts_are = sym (length-map b.judged.items judged_of)
+          ∙ sym (length-map (map judged_of b.judged.items) (λ (j : Judged). j.proved)) ∙ k.asserts_are;
     }
 
 -- nothing is left behind a report
 pub report_ends : (bytes : List ℕ) (r : ReportText) (rest : List Piece) → report_at (pieces_of bytes) ≡ Ok (r, rest) →
     report_at (pieces_of bytes) ≡ Ok (r, [])
 report_ends bytes r rest e = e ∙ ap (λ (z : List Piece). Ok (r, z)) (nothing_left bytes r rest e)
+
+-- ---- of bytes, from the pieces with which a reader begins
+
+module _ (bytes : List ℕ) (ts : List Piece) (here : ts ≡ pieces_of bytes) where
+  pub opening_fails : (e : ReadErr) → Fails e (opening_at ts) → Fails e (report_at (pieces_of bytes))
+  opening_fails e f = subst (λ (z : List Piece). Fails e (report_at z)) here (opening_faulty ts e f)
+
+  module _ (mode : Mode) (us : List Piece) (h : Head) (p : Named) (opened : opening_at ts ≡ Ok ((h, p), us))
+      (is : h.mode ≡ mode) where
+    abbrev lines_of_mode : Mode → Read (Body Element)
+    lines_of_mode m = lines_at (kind_of m) (ring_of m) numbering p us
+
+    pub lines_fail : (e : ReadErr) → Fails e (lines_of_mode mode) → Fails e (report_at (pieces_of bytes))
+    lines_fail e f = subst (λ (z : List Piece). Fails e (report_at z)) here
+        (report_faulty ts us h p opened e (subst (λ m. Fails e (lines_of_mode m)) (sym is) f))
+
+    whole : (b : Body Element) (vs : List Piece) → lines_of_mode mode ≡ Ok (b, vs) →
+        report_at (pieces_of bytes) ≡ Ok (report h p b, vs)
+    whole b vs e = subst (λ (z : List Piece). report_at z ≡ Ok (report h p b, vs)) here
+        (report_whole ts us h p opened b vs (ap lines_of_mode is ∙ e))
+
+    text_made : (b : Body Element) (m : Mode) → h.mode ≡ m → report h p b ≡ in_mode m (report_over h p b)
+    text_made b m k = ap (λ z. in_mode z (report_over h p b)) k
+
+    pub report_read : (b : Body Element) (vs : List Piece) (r : ReportOver Element) → lines_of_mode mode ≡ Ok (b, vs) →
+        r ≡ report_over h p b → report_at (pieces_of bytes) ≡ Ok (in_mode mode r, [])
+    report_read b vs r e k =
+        let made : report h p b ≡ in_mode mode r = text_made b mode is ∙ ap (in_mode mode) (sym k) in
+        report_ends bytes (report h p b) vs (whole b vs e) ∙ ap (λ (z : ReportText). Ok (z, [])) made
+
+    pub lines_asked : {Store : Type 0} (b : code.Body Element Store) (vs : List Piece) →
+        lines_of_mode mode ≡ Ok (body_of b, vs) → IsAsked mode h p b
+    lines_asked b vs e = subst (λ m. IsAsked m h p b) is (report_asked bytes h p b vs (whole (body_of b) vs e))
 
 -- ---- what the reader promises
 

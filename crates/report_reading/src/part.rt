@@ -42,7 +42,6 @@ fn plain(e: ProgramErr<'_>) -> ReadErr<'_>
 }
 
 // The program, with the word `end` behind it.
-#[tactic(auto, using(crate::proofs::ProgramFronts::begun_is, crate::proofs::ProgramFronts::part_found, crate::proofs::ProgramFronts::part_failed))]
 pub(crate) fn program_part<'a>(
     alloc: Global,
     rule: AssertRule,
