@@ -1,5 +1,5 @@
 -- The lines behind the program, one step after another.
-use Rattle.std.proofs.Common.{◌≡◌, ◌<◌, ℕ, zero, suc, Option, Some, None, List, ◌++◌, length, length-append, Result, Ok, Err, refl, sym, ap, ◌∙◌, arith}
+use Rattle.std.proofs.Common.{◌≡◌, ◌<◌, ℕ, zero, suc, Option, Some, None, List, length, length-append, Ok, Err, refl, sym, ap, ◌∙◌, arith}
 use Rattle.trop_theory.specs.Semiring.{Semiring}
 use Rattle.trop_theory.specs.Numbers.{Numbering}
 use Rattle.trop_grammar.specs.Reading.{Reading, Miss}

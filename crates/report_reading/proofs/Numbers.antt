@@ -3,7 +3,7 @@ use Rattle.std.proofs.Common.{◌≡◌, ℕ, List, [], ◌∷◌, map, refl, sy
 use Rattle.prog_theory.specs.Named.{Named, nameless}
 use Rattle.cone_reports.specs.Asserts as theory
 use Rattle.prog_asserts.specs.declared.assertion.Assertion.{Assertion}
-use Rattle.prog_asserts.specs.Views.{assertion_of, assertions}
+use Rattle.prog_asserts.specs.Views.{assertions}
 use Rattle.report_texts.specs.Reports.{assert_numbers}
 use Rattle.report_reading.specs.Asserts.{numbers_in}
 

@@ -1,11 +1,10 @@
 -- The program of a report, by its pieces with what stands before each.
-use Rattle.std.proofs.Common.{◌≡◌, List, Result, Ok, Err, refl, sym, ap, subst, ◌∙◌}
+use Rattle.std.proofs.Common.{◌≡◌, List, Ok, Err, sym, ap, subst, ◌∙◌}
 use Rattle.trop_grammar.specs.Reading.{Reading}
 use Rattle.trop_text.specs.Tokens.{Tok}
 use Rattle.trop_text.specs.Pieces.{Piece, pieces_from, pieces_left}
 use Rattle.trop_text.specs.declared.fault.FaultKind.{FaultKind}
 use Rattle.trop_reading.specs.declared.read_err.ReadErr.{ReadErr}
-use Rattle.trop_reading.specs.declared.read_err.ReadErr.TheVariants as errors
 use Rattle.trop_reading.specs.Gives.{Fails}
 use Rattle.prog_theory.specs.Named.{Named}
 use Rattle.prog_texts.specs.AssertRule.{AssertRule}

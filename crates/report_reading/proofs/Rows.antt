@@ -1,11 +1,11 @@
 -- Rows that are read: their sizes and their normal forms.
-use Rattle.std.proofs.Common.{◌≡◌, ◌≢◌, ◌≤◌, ℕ, zero, suc, Bool, true, false, cond, Option, Some, None, List, [], ◌∷◌, length, Ok, refl, sym, ap, ◌∙◌, arith}
+use Rattle.std.proofs.Common.{◌≡◌, ◌≤◌, ℕ, zero, suc, Bool, true, false, cond, Option, Some, None, List, [], ◌∷◌, length, Ok, refl, sym, ap, ◌∙◌, arith}
 use Rattle.std.specs.Prelude.{is_some}
 use Rattle.std.specs.Bool.{OnTrue, OnFalse}
 use Rattle.trop_theory.specs.Semiring.{Semiring, SemiringLaws}
 use Rattle.trop_theory.specs.Numbers.{Numbering, NumberLaws}
 use Rattle.trop_theory.specs.Vectors.{entry, scaled, row_size, bottom}
-use Rattle.trop_theory.specs.Normal.{IsNormal, Normalises}
+use Rattle.trop_theory.specs.Normal.{Normalises}
 use Rattle.trop_theory.proofs.Rows.{scaled-scaled, entry-scaled, entry-bottom}
 use Rattle.trop_theory.proofs.Generation.{undo_normal}
 use Rattle.trop_theory.proofs.Canonical.{same_from_multiple}
@@ -83,7 +83,7 @@ module _ {V : Type 0} (R : Semiring V) (N : Numbering V) (laws : SemiringLaws R)
   -- what `normalise` leaves of the row
   pub normalised_left : (b : Bool) (old new row : List V) → OnTrue b (Normalises R old new) →
       OnFalse b (old ≡ bottom R (length old)) → OnFalse b (new ≡ old) → old ≡ row → new ≡ normalised R N row
-  normalised_left true old new row yes no same e =
-      sym (normalised_same old new yes) ∙ ap (normalised R N) e
-  normalised_left false old new row yes no same e =
-      same ∙ sym (normalised_bottom old no) ∙ ap (normalised R N) e
+  normalised_left true old new row found other same e =
+      sym (normalised_same old new found) ∙ ap (normalised R N) e
+  normalised_left false old new row found other same e =
+      same ∙ sym (normalised_bottom old other) ∙ ap (normalised R N) e

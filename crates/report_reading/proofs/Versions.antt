@@ -1,5 +1,5 @@
 -- The first line, by its number.
-use Rattle.std.proofs.Common.{◌≡◌, ℕ, Bool, true, false, cond, List, codes, Result, Ok, Err, refl, sym, ap, subst, ◌∙◌}
+use Rattle.std.proofs.Common.{◌≡◌, ℕ, Bool, true, false, cond, List, codes, Ok, Err, refl, ap, ◌∙◌}
 use Rattle.trop_grammar.specs.Reading.{Reading}
 use Rattle.trop_text.specs.Pieces.{Piece}
 use Rattle.trop_text.specs.declared.fault.FaultKind.{FaultKind}

@@ -1,14 +1,13 @@
 -- A whole report from its parts, and what the reader promises from what it gives.
-use Rattle.std.proofs.Common.{◌≡◌, ◌≤◌, ◌<◌, ◌+◌, ℕ, zero, suc, Bool, List, [], ◌∷◌, length, map, All, Result, Ok, Err, refl, sym, ap, subst, ◌∙◌, arith}
+use Rattle.std.proofs.Common.{◌≡◌, ◌≤◌, ◌+◌, ℕ, zero, suc, Bool, List, [], ◌∷◌, length, map, All, Ok, Err, refl, sym, ap, subst, ◌∙◌, arith}
 use Rattle.std.proofs.lemmas.List.{length-map}
-use Rattle.trop_grammar.specs.Reading.{Reading, Miss, go_on, read_then, gives, token_at}
+use Rattle.trop_grammar.specs.Reading.{Reading, go_on, read_then, gives, token_at}
 use Rattle.trop_text.specs.Pieces.{Piece, pieces_left, pieces_of}
 use Rattle.trop_text.specs.Places.{fault_before}
 use Rattle.trop_text.specs.declared.pieces.Pieces.{Pieces}
 use Rattle.trop_text.specs.declared.fault.FaultKind.{FaultKind}
 use Rattle.trop_text.specs.declared.fault.FaultKind.TheVariants.{Syntax}
 use Rattle.trop_text.specs.declared.fault.TextErr.{TextErr}
-use Rattle.trop_text.specs.declared.fault.TextErr.TheVariants as texts
 use Rattle.trop_reading.specs.declared.read_err.ReadErr.{ReadErr}
 use Rattle.trop_reading.specs.declared.read_err.ReadErr.TheVariants as errors
 use Rattle.trop_reading.specs.Gives.{Fails, IsPlaced}
@@ -16,10 +15,10 @@ use Rattle.trop_reading.specs.Outcome.{AnswersWith}
 use Rattle.trop_reading.specs.Words.{line_end, input_end}
 use Rattle.prog_theory.specs.Graph.{points}
 use Rattle.prog_theory.specs.Named.{Named, nameless}
-use Rattle.report_texts.specs.Limits.{most_delay, most_narrow, most_passes, greatest_normal}
+use Rattle.report_texts.specs.Limits.{most_passes, greatest_normal}
 use Rattle.report_texts.specs.Modes.{Mode, Element, kind_of, ring_of, numbering, rule_of}
 use Rattle.report_texts.specs.Lines.{Block, Body, Judged, Each}
-use Rattle.report_texts.specs.Reports.{ReportText, IsPartWithin, IsReportWithin, assert_numbers}
+use Rattle.report_texts.specs.Reports.{ReportText, IsPartWithin, assert_numbers}
 use Rattle.report_texts.specs.Heads.{Head, version_at, head_at}
 use Rattle.report_texts.specs.ProgramParts.{program_part_at}
 use Rattle.report_texts.specs.Texts.{report, SpellsReport, body_for_at, report_at, answer, report_answer}
@@ -27,7 +26,6 @@ use Rattle.report_texts.proofs.TextLaws.{nothing_left, report_found, report_only
 use Rattle.report_texts.proofs.ReadReports.{report_kept}
 use Rattle.cone_reports.specs.Reports.{Part}
 use Rattle.report_value.specs.Kept.{IsPartKept}
-use Rattle.report_value.specs.declared.report.AnyReport.{AnyReport}
 use Rattle.report_value.specs.Texts.{in_mode, text_of}
 use Rattle.report_value.specs.Views.{ReportOver}
 use Rattle.report_reading.specs.declared.progress.Body as code

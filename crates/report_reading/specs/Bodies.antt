@@ -7,7 +7,6 @@ use Rattle.trop_text.specs.Pieces.{Piece}
 use Rattle.trop_text.specs.declared.fault.FaultKind.{FaultKind}
 use Rattle.trop_spelling.specs.declared.ring_kind.RingKind.{RingKind}
 use Rattle.prog_theory.specs.Graph.{Point}
-use Rattle.report_texts.specs.Lines.{Line}
 use Rattle.report_texts.specs.Progress.{Progress}
 use Rattle.report_texts.specs.LineTexts.{line_at}
 use Rattle.report_texts.specs.Heads.{against}

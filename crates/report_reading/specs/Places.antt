@@ -1,5 +1,5 @@
 -- The lines so far, as the reader holds them.
-use Rattle.std.specs.Prelude.{Bool, true, false, List, [], ◌∷◌, ◌++◌, map}
+use Rattle.std.specs.Prelude.{Bool, true, false, List, [], ◌∷◌, map}
 use Rattle.trop_theory.specs.Inequalities.{Inequality}
 use Rattle.prog_theory.specs.Graph as graph
 use Rattle.prog_graph.specs.Views.{point_of}

@@ -1,5 +1,5 @@
 -- What the lines so far come to, as the reader holds it.
-use Rattle.std.specs.Prelude.{◌≡◌, ◌<◌, ℕ, suc, Bool, true, false, List, [], ◌∷◌, ◌++◌, length, map, slice_get, Option, Some, None}
+use Rattle.std.specs.Prelude.{◌≡◌, ℕ, suc, Bool, true, false, List, [], ◌∷◌, ◌++◌, length, map, slice_get, Option, Some, None}
 use Rattle.prog_theory.specs.Graph as graph
 use Rattle.prog_graph.specs.Views.{point_of}
 use Rattle.prog_graph.specs.declared.parts.Point.{Point}

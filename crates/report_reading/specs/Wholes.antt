@@ -1,5 +1,5 @@
 -- Whole reports by the parts in which they are read.
-use Rattle.std.specs.Prelude.{ℕ, List, map}
+use Rattle.std.specs.Prelude.{List, map}
 use Rattle.trop_theory.specs.Semiring.{Semiring}
 use Rattle.trop_theory.specs.Numbers.{Numbering}
 use Rattle.trop_grammar.specs.Reading.{Reading, ◌>>=◌, gives, token_at}

@@ -1,4 +1,3 @@
-use Rattle.std.proofs.Common.{length, ◌≡◌}
 use Rattle.std.proofs.lemmas.List.Elements.{All-push}
 use Rattle.report_value.specs.Kept.{IsPointKept}
 use Rattle.report_reading.proofs.PointParts.{parts_pushed}

@@ -1,4 +1,3 @@
-use Rattle.report_value.specs.Texts.{text_of}
 use Rattle.report_reading.proofs.Wholes.{spelled, only_one, refused, not_spelled}
 use Rattle.report_reading.proofs.read.read_report.Goals as goal
 
