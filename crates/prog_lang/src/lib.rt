@@ -10,7 +10,7 @@ mod statements;
 mod traces;
 mod verbs;
 
-pub use part::read_program_part;
+pub use part::{program_front, read_program_part};
 pub use prog_reading::AssertRule;
 pub use prog_tree::{
     Block, Claim, Cmp, Cond, CondShape, Numbers, Program, Rel, Side, SideWord, Stmt, Term, Terms,

@@ -6,7 +6,7 @@ ghost use Rattle.shape_grammar.specs.Steps.{token_past};
 ghost use Rattle.prog_theory.specs.Limits.{program_limits};
 ghost use Rattle.prog_theory.specs.Named.{Named};
 ghost use Rattle.prog_texts.specs.Words.{Counted, skipped, nothing_before};
-ghost use Rattle.prog_texts.specs.Programs.{closed, IsProgram};
+ghost use Rattle.prog_texts.specs.Programs.{closed, program_at, IsProgram};
 ghost use Rattle.prog_texts.specs.Parts.{part_at};
 ghost use Rattle.prog_reading.specs.Left.{left, source_of, before_of};
 ghost use Rattle.prog_reading.specs.Gives.{Gives};
@@ -42,6 +42,20 @@ fn part<'a>(alloc: Global, rule: AssertRule, at: At<'a>) -> Result<(Program, At<
     let (program, rest) = program(alloc, rule, at)?;
     let _ = closing(rest)?;
     Ok((program, rest))
+}
+
+/// A program at the front of a text, as far as it goes, under a rule for the words `max` and `min` in its asserts. For a
+/// reader that goes on behind it.
+pub fn program_front<'a>(
+    alloc: Global,
+    rule: AssertRule,
+    at: At<'a>,
+) -> Result<(Program, At<'a>), ReadErr<'a>>
+    requires { before_of at.before ≡ nothing_before }
+    ensures gives { Gives (λ x. (x.0, left x.1)) result (program_at program_limits (rule_of rule) (left at.entry)) }
+    ensures source { IfOk result (λ x. source_of x.1 ≡ source_of at.entry) }
+{
+    program(alloc, rule, at)
 }
 
 /// Reads a program from the next tokens of a lexer, under a rule for the words `max` and `min` in its asserts. It ends

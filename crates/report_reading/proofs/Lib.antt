@@ -1,0 +1,10 @@
+pub mod LastPlaces
+pub mod Versions
+pub mod ProgramFronts
+pub mod LineRests
+pub mod Transitions
+pub mod Bodies
+pub mod Numbers
+pub mod Rows
+pub mod PointParts
+pub mod Wholes

@@ -1,0 +1,10 @@
+pub mod Words
+pub mod Heads
+pub mod Parts
+pub mod Asserts
+pub mod Lines
+pub mod Places
+pub mod Progress
+pub mod Bodies
+pub mod Wholes
+pub mod Outcomes

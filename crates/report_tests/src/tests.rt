@@ -1,0 +1,6 @@
+mod altered;
+mod counts;
+mod fronts;
+mod reading;
+mod sample;
+mod small;
