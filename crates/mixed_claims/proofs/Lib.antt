@@ -1,0 +1,4 @@
+pub mod Readings
+pub mod Searches
+pub mod Words
+pub mod Sides

@@ -1,0 +1,5 @@
+pub mod Twins
+pub mod Halves
+pub mod Claims
+pub mod Laws
+pub mod Inclusion

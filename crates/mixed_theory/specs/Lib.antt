@@ -1,0 +1,4 @@
+pub mod Twins
+pub mod Halves
+pub mod Claims
+pub mod Mixed
