@@ -1,6 +1,6 @@
 -- The terms of a side, as they stand in the code.
 -- Index: mapped.
-use Rattle.std.proofs.Common.{◌≡◌, ◌<◌, ◌+◌, ℕ, zero, suc, List, [], ◌∷◌, map, length, All, get_or, subst, arith}
+use Rattle.std.proofs.Common.{◌≡◌, ◌<◌, ℕ, zero, suc, List, [], ◌∷◌, map, length, All, get_or, subst, arith}
 use Rattle.prog_theory.specs.States as theory
 use Rattle.prog_tree.specs.declared.term.Term.{Term}
 use Rattle.prog_tree.specs.Terms.{term_of}
