@@ -1,0 +1,3 @@
+// Tests by tables.
+mod claims;
+mod verdicts;
