@@ -1,8 +1,8 @@
 //! Each law of the library, called once at a concrete semiring.
 use std::test::Fail;
 use tplib_laws::{
-    equal_bytes_are_equal_cones, equal_bytes_are_equal_solutions, ext_takes_back_int,
-    int_takes_back_ext,
+    check_takes_analyze, equal_bytes_are_equal_cones, equal_bytes_are_equal_solutions,
+    ext_takes_back_int, int_takes_back_ext,
 };
 use trop_dd::equal_rows_are_equal_solutions;
 use trop_row::laws::{
@@ -26,5 +26,6 @@ fn laws_at_a_semiring(_rt: HostRuntime) -> Result<(), Fail> {
     equal_bytes_are_equal_cones();
     int_takes_back_ext();
     ext_takes_back_int();
+    check_takes_analyze();
     Ok(())
 }
