@@ -47,6 +47,7 @@ fn fronts_of_bytes(rt: HostRuntime) -> Result<(), Fail> {
         }
         text.push(*byte)?;
     }
-    assert!(rt; whole + 1 == text.len());
+    assert!(rt; whole < text.len());
+    assert!(rt; text.len() - whole == 1);
     Ok(())
 }
