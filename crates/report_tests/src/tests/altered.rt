@@ -231,10 +231,7 @@ const ALTERED: [Altered; 124] = [
     Altered {
         line: 17,
         text: "assert min(ls, n) = min(ld, n); end",
-        wanted: Some(Fault::Syntax {
-            line: 18,
-            column: 1,
-        }),
+        wanted: Some(Fault::ReportFault { line: 18 }),
     },
     // Labels.
     Altered {
