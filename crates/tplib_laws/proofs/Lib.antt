@@ -15,4 +15,4 @@ pub mod Understood
 pub mod Ends
 pub mod Trips
 pub mod RoundTrips
-pub mod Checked
+pub mod CheckTrips

@@ -1,4 +1,4 @@
 pub mod Both
 pub mod EqualBytes
 pub mod RoundTrips
-pub mod Checked
+pub mod Inductive

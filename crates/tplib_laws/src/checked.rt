@@ -6,7 +6,7 @@ ghost use Rattle.tplib_cmd.specs.declared.status.Status.{Status};
 ghost use Rattle.tplib_cmd.specs.Streams.{longest_input};
 ghost use Rattle.tplib_cmd.specs.Ends.{Run, EndsWell, EndsWith};
 ghost use Rattle.tplib_laws.specs.RoundTrips.{EndsRightly};
-ghost use Rattle.tplib_laws.specs.Checked.{IsFoundInductive, NoStop};
+ghost use Rattle.tplib_laws.specs.Inductive.{IsFoundInductive, NoStop};
 
 /// A run of `analyze` that ends with status 0, and a run with the word `check` on the text that it wrote, where that is
 /// no longer than an input may be. The second run answers with status 0 and the line `inductive`. Else it ends with a

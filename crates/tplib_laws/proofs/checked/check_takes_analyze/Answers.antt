@@ -1,4 +1,4 @@
-use Rattle.tplib_laws.proofs.Checked.{check_trip}
+use Rattle.tplib_laws.proofs.CheckTrips.{check_trip}
 use Rattle.tplib_laws.proofs.checked.check_takes_analyze.Goals as goal
 
 pub returns : goal.returns

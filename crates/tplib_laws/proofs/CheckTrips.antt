@@ -13,7 +13,7 @@ use Rattle.tplib_cmd.specs.declared.status.Status.{Status}
 use Rattle.tplib_cmd.specs.Streams.{longest_input}
 use Rattle.tplib_cmd.specs.Ends.{Run, EndsWell, EndsWith}
 use Rattle.tplib_laws.specs.RoundTrips.{EndsRightly}
-use Rattle.tplib_laws.specs.Checked.{IsFoundInductive, NoStop}
+use Rattle.tplib_laws.specs.Inductive.{IsFoundInductive, NoStop}
 use Rattle.tplib_laws.proofs.Understood.{check_understood}
 use Rattle.tplib_laws.proofs.Ends.{IsTakenBack, ends_rightly}
 
