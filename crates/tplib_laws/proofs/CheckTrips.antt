@@ -5,7 +5,7 @@ use Rattle.trop_words.specs.declared.command.Mode.{Mode}
 use Rattle.trop_words.specs.declared.command.Command.TheVariants.{Analyze, Check}
 use Rattle.report_texts.specs.Reports.{ReportText, IsInductiveText}
 use Rattle.report_texts.proofs.TextLaws.{report_only}
-use Rattle.tplib_check.specs.Check.{IsCheckAnswer}
+use Rattle.tplib_check.specs.Answers.{IsCheckAnswer}
 use Rattle.tplib_analyze.specs.Modes.{mode_of}
 use Rattle.tplib_analyze.specs.Analyze.{IsAnalyzeText}
 use Rattle.prog_theory.specs.Named.{Named}
