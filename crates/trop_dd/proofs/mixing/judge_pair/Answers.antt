@@ -30,11 +30,13 @@ judge-requires g c = record {
       (omega (
         arith,
         left_size g.met.S.Scalar.ring_laws c.args.system.now.n c.args.system.now.inequalities
-            c.args.ineq.now c.index-sides-kept.result c.index-sides-dropped.result c.args.dropped.now.sum c.sum-right.result
+            c.args.ineq.now c.index-sides-kept.result c.index-sides-dropped.result c.args.dropped.now.sum
+            c.sum-right.result
             c.new_slot-slot.result (fit g.met.S.Scalar.ring_laws c.args.system.now.n c.args.system.now.inequalities
             c.args.ineq.now c.args.sides.now c.requires.next c.args.kept.now c.args.dropped.now c.requires.kept
             c.requires.dropped c.index-sides-kept.result c.index-sides-dropped.result c.index-sides-kept.is
-            c.index-sides-dropped.is c.sum-right.result c.sum-right.ensures c.new_slot-slot.result c.new_slot-slot.ensures.sum
+            c.index-sides-dropped.is c.sum-right.result c.sum-right.ensures c.new_slot-slot.result
+            c.new_slot-slot.ensures.sum
             c.new_slot-slot.ensures.tail c.new_slot-slot.ensures.head),
       )) c.index-sides-kept.result.slots
       (first_slots g.met.S.Scalar.ring_laws c.args.system.now.n c.args.system.now.inequalities c.args.ineq.now
@@ -54,11 +56,13 @@ judge-requires g c = record {
       (omega (
         arith,
         right_size g.met.S.Scalar.ring_laws c.args.system.now.n c.args.system.now.inequalities
-            c.args.ineq.now c.index-sides-kept.result c.index-sides-dropped.result c.args.dropped.now.sum c.sum-right.result
+            c.args.ineq.now c.index-sides-kept.result c.index-sides-dropped.result c.args.dropped.now.sum
+            c.sum-right.result
             c.new_slot-slot.result (fit g.met.S.Scalar.ring_laws c.args.system.now.n c.args.system.now.inequalities
             c.args.ineq.now c.args.sides.now c.requires.next c.args.kept.now c.args.dropped.now c.requires.kept
             c.requires.dropped c.index-sides-kept.result c.index-sides-dropped.result c.index-sides-kept.is
-            c.index-sides-dropped.is c.sum-right.result c.sum-right.ensures c.new_slot-slot.result c.new_slot-slot.ensures.sum
+            c.index-sides-dropped.is c.sum-right.result c.sum-right.ensures c.new_slot-slot.result
+            c.new_slot-slot.ensures.sum
             c.new_slot-slot.ensures.tail c.new_slot-slot.ensures.head),
       )) c.index-sides-dropped.result.slots
       (second_slots g.met.S.Scalar.ring_laws c.args.system.now.n c.args.system.now.inequalities c.args.ineq.now
