@@ -30,8 +30,21 @@ fn others_meet<S: Scalar>(rows: &[Row<S>], k: usize, target: &[S], t: usize) -> 
     some_meets_of(&rows[k + 1..], target, t) || some_meets_of(&rows[..k], target, t)
 }
 
-// Whether the row at k is a combination of the others.
-fn depends<S: Scalar>(rows: &[Row<S>], k: usize, n: u32) -> bool
+// The place of a greatest entry, at which a row is the likeliest to be met by no other.
+fn greatest_at<S: Scalar>(entries: &[S]) -> usize {
+    let (mut place, mut greatest) = (0, S::zero());
+    for i in 0..entries.len() {
+        let next = entries[i];
+        if !next.le(greatest) {
+            place = i;
+            greatest = next;
+        }
+    }
+    place
+}
+
+// Whether the row at k is a combination of the others: at each coordinate some other meets it.
+fn each_is_met<S: Scalar>(rows: &[Row<S>], k: usize, n: u32) -> bool
     requires within { k < length rows.now }
     requires wide { AreWide n rows.now }
     requires sizes { rows_size S.ring rows.now ≤ most_entry }
@@ -48,6 +61,25 @@ fn depends<S: Scalar>(rows: &[Row<S>], k: usize, n: u32) -> bool
         }
     }
     true
+}
+
+// The same, with a look at one coordinate first.
+fn depends<S: Scalar>(rows: &[Row<S>], k: usize, n: u32) -> bool
+    requires within { k < length rows.now }
+    requires wide { AreWide n rows.now }
+    requires sizes { rows_size S.ring rows.now ≤ most_entry }
+    ensures yes { IsTrue result → (d : List S) → IsCombination S.ring n (remove rows.now k)
+        (slice_index_or rows.now k d) }
+    ensures no { IsFalse result → (d : List S) → IsCombination S.ring n (remove rows.now k)
+        (slice_index_or rows.now k d) → ⊥ }
+{
+    let row = &rows[k];
+    let target = row.as_slice();
+    let t = greatest_at(target);
+    if t < target.len() && !is_zero(target[t]) && !others_meet(rows, k, target, t) {
+        return false;
+    }
+    each_is_met(rows, k, n)
 }
 
 // Takes out, one after another from the last on, the rows that the others give. So only rows that stay move up.
