@@ -18,7 +18,7 @@ use crate::splitting::{Dropped, Kept};
 use std::alloc::{AllocError, Global};
 use trop_hyper::{Hyper, Looks, Mask};
 use trop_pairs::{
-    Carried, RowSlot, RowWords, carry, closed_by, cover_of, judge, new_slot, rejects,
+    Carried, RowSlot, RowWords, carry, closed_by, cover_of, fades, judge, new_slot, rejects,
 };
 use trop_row::{Ineq, Row, System};
 use trop_scalar::Scalar;
@@ -198,6 +198,9 @@ fn judge_pair<S: Scalar>(
     let (v, w) = (&sides[kept.place], &sides[dropped.place]);
     let (left, right) = (dropped.sum, kept.sum());
     let slot = new_slot(kept.slot, left, dropped.reached);
+    if fades(system, ineq, v, left, w, right, slot) {
+        return Ok(());
+    }
     let judged = judge(
         &mut found.room,
         system,
