@@ -15,7 +15,7 @@ use Rattle.trop_theory.proofs.Combinations.{IsCombination-length}
 use Rattle.trop_theory.proofs.Canonical.{IsExtreme-same, multiple_from_extreme}
 use Rattle.trop_criterion.proofs.SizeBound.{extreme_row_small}
 use Rattle.trop_row.proofs.NormalSteps.{size_normalised}
-use Rattle.trop_row.proofs.Steps.{rows_size-at}
+use Rattle.trop_row.proofs.Sizes.{rows_size-at}
 use Rattle.tplib_laws.proofs.Fitting.{fitted_sides, Solves-fitted, IsIn-fitted, system_size-fitted}
 use Rattle.tplib_laws.proofs.Rows.{IsPrintable}
 

@@ -6,6 +6,5 @@ pub mod Compared
 pub mod Pairs
 pub mod Forgotten
 pub mod Sampled
-pub mod Largest
 pub mod Late
 pub mod ForgetReplies

@@ -16,7 +16,6 @@ mod kept;
 mod pair;
 mod refusal;
 mod sample;
-mod sizes;
 
 pub use bounds::bounds_of;
 pub use forget::forget_reply;

@@ -1,14 +1,14 @@
 //! The command `sample`: the sizes of a sample and of both descriptions of its solutions.
-ghost use Rattle.std.specs.Prelude.{◌≡◌, ◌≤◌, ◌<◌, ◌^◌, ◌++◌, [], OnOk, IfOk, IfErr};
+ghost use Rattle.std.specs.Prelude.{◌≡◌, ◌≤◌, ◌<◌, ◌^◌, ◌++◌, [], OnOk, IfOk, IfErr, max};
 ghost use Rattle.tplib_reply.specs.Meaning.{IsReply, IsRefused};
 ghost use Rattle.tplib_poly.specs.Sample.{number_line, sample_lines, sample_meaning};
 
 use crate::refusal::refusal;
-use crate::sizes::{coefficient_size, greater};
 use itoa::Buffer;
 use std::alloc::{AllocError, Global};
 use tplib_reply::{Refusal, Reply};
 use trop_poly::Poly;
+use trop_row::system_size;
 use trop_sample::make;
 
 /// The number of variables and of inequalities of the sample of this seed, the lengths of the canonical and of the
@@ -32,9 +32,16 @@ pub fn sample_reply(alloc: Global, seed: u32, vars: u32, rows: u32) -> Result<Re
         Ok(bounds) => bounds,
         Err(e) => return Err(refusal(e)),
     };
-    let largest = greater(cone.size(), coefficient_size(bounds.as_slice()));
+    let largest = greater(cone.size(), system_size(bounds.as_slice()));
     let text = sample_text(alloc, vars, rows, cone.rows().len(), bounds.len(), largest)?;
     Ok(Reply { yes: true, text })
+}
+
+// The greater of the two.
+fn greater(a: u64, b: u64) -> u64
+    ensures { result ≡ max a b }
+{
+    if a < b { b } else { a }
 }
 
 // The lines of a sample.

@@ -1,8 +1,8 @@
 -- A kept and a dropped row with what is carried beside them, and the row that they give.
 --   normal_form_unique: a vector has one normal form
 --   fit, kept_sizes: the two rows of a pair, as they are read at their places
---   has_given, none_given, rejected_given, some_given: what has to be found of what they give
---   left_size .. sum_at, is_factor, slot_size: sizes, and the multiple that makes the sum normal
+--   has_given, none_given, rejected_given, faded_given, some_given: what has to be found of what they give
+--   left_size .. right_fits .. sum_at, is_factor, slot_size: sizes, and the multiple that makes the sum normal
 --   normalises .. is_cover, has_edge, first_fits, second_fits: the new row and what is carried beside it
 --   kept_tail, rejected_at, no_type_given: pairs that words reject
 use Rattle.std.proofs.Common.{◌≡◌, ◌≢◌, ◌⊎◌, ◌<◌, ◌≤◌, ◌+◌, ◌^◌, ℕ, List, [], ◌∷◌, ◌++◌, length, inl, inr, ⊎_elim, sym, ap, ◌∙◌, refl, arith, subst, get_or, ap₂}
@@ -164,6 +164,11 @@ module _ {V : Type 0} {R : Semiring V} (laws : SemiringLaws R) where
         holds finite fails v.words w.words side_v.words side_w.words kept.slot.tail
         (λ j. (λ t. ((slot_v.tail j).0 t).1, λ a. (slot_v.tail j).1 (finite, a))) g r))
 
+    pub faded_given : (found : List (List V)) →
+        ((x : List V) (t : ℕ) → GivesTyped R n system p v.row w.row x t → ⊥) →
+        HasGiven R n system p sides found kept dropped
+    faded_given found none = has_given found (λ x t g. absurd (none x t g))
+
     pub some_given : (found : List (List V)) → ((x : List V) → Normalises R (mixed R p.left p.right v.row w.row) x →
         Contains found x) → HasGiven R n system p sides found kept dropped
     some_given found all = has_given found (λ x t g. all x g.normalises)
@@ -188,6 +193,12 @@ module _ {V : Type 0} {R : Semiring V} (laws : SemiringLaws R) where
     pub fits : (c : V) → R.size c ≤ 2 ^ 61 → (slots : List (Slot V)) → All (λ s. R.size s.sum ≤ 2 ^ 58) slots →
         All (λ s. R.size c + R.size s.sum ≤ 2 ^ 62) slots
     fits c small slots all k d lt = omega (arith, small, all k d lt)
+
+    pub left_fits : All (λ s. R.size l + R.size s.sum ≤ 2 ^ 62) v.slots
+    left_fits = fits l (omega (arith, left_size)) v.slots first_slots
+
+    pub right_fits : All (λ s. R.size m + R.size s.sum ≤ 2 ^ 62) w.slots
+    right_fits = fits m (omega (arith, right_size)) w.slots second_slots
 
     -- both rows have the coordinates in common
     module _ (nodes : ℕ) (in_nodes : (i : ℕ) → Has nodes i ↔ (Has v.words.support i ⊎ Has w.words.support i)) where

@@ -1,5 +1,6 @@
 -- The rows of a cone with all that is carried beside them, and one more inequality.
-use Rattle.std.specs.Prelude.{◌≡◌, ◌^◌, ◌≤◌, ◌++◌, ℕ, List, [], All, map, slice_index_or}
+use Rattle.std.specs.Prelude.{◌≡◌, ◌≤◌, ◌++◌, ℕ, List, [], All, map, slice_index_or}
+use Rattle.trop_theory.specs.Sizes.{most_coefficient}
 use Rattle.trop_theory.specs.Semiring.{Semiring}
 use Rattle.trop_theory.specs.Inequalities.{Inequality, IsIn, inequality_size, system_size}
 use Rattle.trop_pruning.specs.Judged.{Side, IsSide}
@@ -25,7 +26,7 @@ pub record IsNext {V : Type 0} (R : Semiring V) (n : ℕ) (system : List (Inequa
   pub at_most : n ≤ 64
   pub inside : All (IsIn n) system
   pub last : IsIn n p
-  pub size : system_size R system ≤ 2 ^ 49
-  pub last_size : inequality_size R p ≤ 2 ^ 49
+  pub size : system_size R system ≤ most_coefficient
+  pub last_size : inequality_size R p ≤ most_coefficient
   pub described : Describes R n system (rows_of sides)
   pub each : All (IsSide R n system) sides

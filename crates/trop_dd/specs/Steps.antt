@@ -1,5 +1,6 @@
 -- What stands between two inequalities, while the rows of the smaller cone are looked for.
 use Rattle.std.specs.Prelude.{◌≡◌, ◌≢◌, ◌+◌, ◌^◌, ◌<◌, ◌≤◌, ℕ, min, List, [], ◌∷◌, ◌++◌, length, slice_index_or, All, AllPairs, Contains, Some}
+use Rattle.trop_theory.specs.Sizes.{most_coefficient, most_mixed, most_scaled}
 use Rattle.trop_theory.specs.Semiring.{Semiring}
 use Rattle.trop_theory.specs.Vectors.{scaled, joined, row_size}
 use Rattle.trop_theory.specs.Normal.{IsNormal, Normalises}
@@ -49,10 +50,10 @@ pub record IsFit {V : Type 0} (R : Semiring V) (n : ℕ) (system : List (Inequal
     (l m : V) (slot : Slot V) : Type 0 where
   pub pair : IsPair R n system p v w l m slot
   pub normal : IsNormal R w.row
-  pub size : system_size R system ≤ 2 ^ 49
-  pub last_size : inequality_size R p ≤ 2 ^ 49
-  pub first_size : row_size R v.row ≤ 2 ^ 57
-  pub second_size : row_size R w.row ≤ 2 ^ 57
+  pub size : system_size R system ≤ most_coefficient
+  pub last_size : inequality_size R p ≤ most_coefficient
+  pub first_size : row_size R v.row ≤ most_mixed
+  pub second_size : row_size R w.row ≤ most_mixed
   pub solves : (x : List V) → Normalises R (mixed R p.left p.right v.row w.row) x → Solves R n (system ++ p ∷ []) x
 
 -- the pair gives a row of these types, whose tangent hyperedges are in the room
@@ -67,7 +68,7 @@ pub record IsGiven {V : Type 0} (R : Semiring V) (n : ℕ) (system : List (Inequ
 pub record IsFactor {V : Type 0} (R : Semiring V) (l m : V) (v w : List V) (by : V) : Type 0 where
   pub finite : by ≢ R.zero
   pub normal : IsNormal R (scaled R by (joined R (scaled R l v) (scaled R m w)))
-  pub size : R.size by ≤ 2 ^ 59
+  pub size : R.size by ≤ most_scaled
 
 -- by brings the pair to normal form, as first times v plus second times w
 pub record AreMultiples {V : Type 0} (R : Semiring V) (n : ℕ) (system : List (Inequality V)) (p : Inequality V)

@@ -1,10 +1,11 @@
 // A double description, to which inequalities are pushed.
-ghost use Rattle.std.specs.Prelude.{◌≡◌, ◌-◌, ◌*◌, ◌^◌, ◌<◌, ◌≤◌, [], ◌∷◌, ◌++◌, All, OnOk, OnErr, IfOk, IfErr, length, take};
+ghost use Rattle.std.specs.Prelude.{◌≡◌, ◌+◌, ◌-◌, ◌*◌, ◌^◌, ◌<◌, ◌≤◌, [], ◌∷◌, ◌++◌, ℕ, All, OnOk, OnErr, IfOk, IfErr, length, take};
+ghost use Rattle.trop_theory.specs.Sizes.{most_coefficient};
 ghost use Rattle.trop_theory.specs.Vectors.{row_size};
 ghost use Rattle.trop_theory.specs.Inequalities.{IsIn, Solves, inequality_size, system_size};
 ghost use Rattle.trop_theory.specs.Canonical.{IsOverLimit};
 ghost use Rattle.trop_criterion.specs.SizeBound.{HaveSpread};
-ghost use Rattle.trop_dd.specs.Description.{Description, Describes, CountsNew, IsRefusedBy};
+ghost use Rattle.trop_dd.specs.Description.{Description, Describes, CountsNew, IsRefusedBy, AreLaterWithin, IsStoppedBehind};
 ghost use Rattle.trop_dd.specs.Units.{IsUnitRow};
 
 use crate::copying::{copied_rows, copied_sides, copied_system};
@@ -69,12 +70,13 @@ impl<S: Scalar> Dd<S> {
     /// 4,096 extreme rows. After a refusal nothing has changed but the count of looks, and the inequality is dropped.
     pub fn push(&mut self, alloc: Global, ineq: Ineq<S>, looks: &mut Looks) -> Result<(), DdErr>
         requires wide { IsIn self.old.n ineq }
-        requires size { inequality_size S.ring ineq ≤ 2 ^ 49 }
+        requires size { inequality_size S.ring ineq ≤ most_coefficient }
         requires room { length self.old.system < 2 ^ 31 }
         ensures width { self.new.n ≡ self.old.n }
         ensures system { OnOk result (self.new.system ≡ self.old.system ++ ineq ∷ []) }
         ensures described { OnOk result (Describes S.ring self.new.n self.new.system self.new.rows) }
-        ensures within { OnOk result (IsOverLimit S.ring (Solves S.ring self.old.n (self.old.system ++ ineq ∷ [])) → ⊥) }
+        ensures within { OnOk result (IsOverLimit S.ring (Solves S.ring self.old.n (self.old.system ++ ineq ∷ [])) →
+            ⊥) }
 
         // A refusal has its cause, and leaves everything.
         ensures refused { IfErr result (IsRefusedBy S.ring self.old.n (self.old.system ++ ineq ∷ [])) }
@@ -95,6 +97,41 @@ impl<S: Scalar> Dd<S> {
                 Ok(())
             }
         }
+    }
+
+    /// Adds copies of the inequalities, one after another, each as [`Dd::push`] does. `Limit(k)` comes exactly where, of
+    /// the systems that arise in turn, that of k inequalities is the first with more than 4,096 extreme rows. After a
+    /// refusal those before the refused one stand.
+    pub fn push_all(
+        &mut self,
+        alloc: Global,
+        more: &[Ineq<S>],
+        looks: &mut Looks,
+    ) -> Result<(), DdErr>
+        requires wide { All (IsIn self.old.n) more.now }
+        requires size { system_size S.ring more.now ≤ most_coefficient }
+        requires room { length self.old.system + length more.now ≤ 2 ^ 31 }
+        ensures width { self.new.n ≡ self.old.n }
+        ensures system { OnOk result (self.new.system ≡ self.old.system ++ more.now) }
+        ensures within { OnOk result (AreLaterWithin S.ring self.old.n (length self.old.system)
+            (self.old.system ++ more.now)) }
+
+        // A refusal has its cause, and leaves what was pushed before it.
+        ensures stopped { IfErr result (IsStoppedBehind S.ring self.old.n (length self.old.system)
+            (self.old.system ++ more.now)) }
+        ensures stays { OnErr result ((k : ℕ) × (self.new.system ≡ self.old.system ++ take k more.now)) }
+
+        // Each new row costs a look.
+        ensures counts { OnOk result (CountsNew S.ring self.old.rows self.new.rows looks.old looks.new) }
+        ensures kept { looks.old ≤ looks.new }
+    {
+        for ineq in more {
+            let copy = ineq.copy(alloc)?;
+            if let Err(err) = self.push(alloc, copy, looks) {
+                return Err(err);
+            }
+        }
+        Ok(())
     }
 
     /// The canonical list of the solutions of all inequalities pushed. Where these have size at most M, the rows have

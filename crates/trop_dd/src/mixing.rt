@@ -1,5 +1,6 @@
 // The rows that pairs of a kept and a dropped row give.
-ghost use Rattle.std.specs.Prelude.{◌≡◌, ◌≢◌, ◌⊎◌, ◌+◌, ◌^◌, ◌≤◌, ◌<◌, ◌++◌, [], ◌∷◌, ℕ, All, Contains, OnOk, IfOk, IfErr, List, length, slice_index_or};
+ghost use Rattle.std.specs.Prelude.{◌≡◌, ◌≢◌, ◌⊎◌, ◌+◌, ◌≤◌, ◌<◌, ◌++◌, [], ◌∷◌, ℕ, All, Contains, OnOk, IfOk, IfErr, List, length, slice_index_or};
+ghost use Rattle.trop_theory.specs.Sizes.{most_entry, most_mixed};
 ghost use Rattle.trop_theory.specs.Vectors.{joined, scaled, row_size};
 ghost use Rattle.trop_theory.specs.Normal.{Normalises};
 ghost use Rattle.trop_theory.specs.Steps.{mixed};
@@ -17,7 +18,7 @@ use crate::splitting::{Dropped, Kept};
 use std::alloc::{AllocError, Global};
 use trop_hyper::{Hyper, Looks, Mask};
 use trop_pairs::{
-    Carried, RowSlot, RowWords, carry, closed_by, cover_of, judge, new_slot, rejects,
+    Carried, RowSlot, RowWords, carry, closed_by, cover_of, fades, judge, new_slot, rejects,
 };
 use trop_row::{Ineq, Row, System};
 use trop_scalar::Scalar;
@@ -57,10 +58,10 @@ fn mix<S: Scalar>(
     right: S,
 ) -> Result<Row<S>, AllocError>
     requires lengths { length v.now ≡ length w.now }
-    requires v_size { row_size S.ring v.now ≤ 2 ^ 57 }
-    requires w_size { row_size S.ring w.now ≤ 2 ^ 57 }
-    requires left_size { S.ring.size left ≤ 2 ^ 60 }
-    requires right_size { S.ring.size right ≤ 2 ^ 60 }
+    requires v_size { row_size S.ring v.now ≤ most_mixed }
+    requires w_size { row_size S.ring w.now ≤ most_mixed }
+    requires left_size { S.ring.size left ≤ most_entry }
+    requires right_size { S.ring.size right ≤ most_entry }
     ensures { IfOk result (λ x. x ≡ joined S.ring (scaled S.ring left v.now) (scaled S.ring right w.now)) }
 {
     let mut mixed = v.copy(alloc)?;
@@ -197,6 +198,9 @@ fn judge_pair<S: Scalar>(
     let (v, w) = (&sides[kept.place], &sides[dropped.place]);
     let (left, right) = (dropped.sum, kept.sum());
     let slot = new_slot(kept.slot, left, dropped.reached);
+    if fades(system, ineq, v, left, w, right, slot) {
+        return Ok(());
+    }
     let judged = judge(
         &mut found.room,
         system,

@@ -11,16 +11,14 @@ use Rattle.trop_hyper.proofs.Words.{ones_some, ones-grow, ones-below, ones-withi
 pub record IsGrown (reaches : ℕ → ℕ → Type 0) (kept : ℕ → Type 0) (nodes start k now : ℕ) : Type 0 where
   pub grown : IsSubset start now
   pub within : IsSubset now nodes
-  pub fits : now < 2 ^ 64
   pub reached : (u : ℕ) → ((v : ℕ) → Has start v → reaches u v) → (v : ℕ) → Has now v → reaches u v
   pub closed : IsSubset now start → (j : ℕ) → j < k → kept j
 
 module _ (reaches : ℕ → ℕ → Type 0) (kept : ℕ → Type 0) (nodes start : ℕ) where
-  pub IsGrown-first : IsSubset start nodes → start < 2 ^ 64 → IsGrown reaches kept nodes start 0 start
-  IsGrown-first within fits = record {
+  pub IsGrown-first : IsSubset start nodes → IsGrown reaches kept nodes start 0 start
+  IsGrown-first within = record {
     grown = λ i here. here;
     within = within;
-    fits = fits;
     reached = λ u from. from;
     closed = λ s j l. absurd (omega arith);
   }
@@ -29,40 +27,42 @@ module _ (reaches : ℕ → ℕ → Type 0) (kept : ℕ → Type 0) (nodes start
   kept_more : (k now : ℕ) → ((j : ℕ) → j < k → kept j) → kept k → (j : ℕ) → j < k + 1 → kept j
   kept_more k now before here j m = ⊎_elim (λ p. before j p) (λ p. subst kept (omega arith) here) (cases_lt j k)
 
-  pub IsGrown-skip : (k now : ℕ) → IsGrown reaches kept nodes start k now → kept k → IsGrown reaches kept nodes start (k + 1) now
+  pub IsGrown-skip : (k now : ℕ) → IsGrown reaches kept nodes start k now → kept k →
+      IsGrown reaches kept nodes start (k + 1) now
   IsGrown-skip k now h here = record {
     grown = h.grown;
     within = h.within;
-    fits = h.fits;
     reached = h.reached;
     closed = λ s. kept_more k now (h.closed s) here;
   }
 
-  pub IsGrown-take : (k now next head : ℕ) → IsGrown reaches kept nodes start k now → ((i : ℕ) → Has next i ↔ (Has now i ⊎ Has head i)) → next < 2 ^ 64 → IsSubset head nodes → ((u : ℕ) → ((v : ℕ) → Has now v → reaches u v) → (i : ℕ) → Has head i → reaches u i) → (IsSubset head start → kept k) → IsGrown reaches kept nodes start (k + 1) next
-  IsGrown-take k now next head h joins fits within reached here = record {
+  pub IsGrown-take : (k now next head : ℕ) → IsGrown reaches kept nodes start k now →
+      ((i : ℕ) → Has next i ↔ (Has now i ⊎ Has head i)) → IsSubset head nodes →
+      ((u : ℕ) → ((v : ℕ) → Has now v → reaches u v) → (i : ℕ) → Has head i → reaches u i) →
+      (IsSubset head start → kept k) → IsGrown reaches kept nodes start (k + 1) next
+  IsGrown-take k now next head h joins within reached here = record {
     grown = λ i old. (joins i).1 (inl (h.grown i old));
     within = λ i new. ⊎_elim (λ old. h.within i old) (within i) ((joins i).0 new);
-    fits = fits;
     reached = λ u from v new. ⊎_elim (λ old. h.reached u from v old) (reached u (h.reached u from) v) ((joins v).0 new);
-    closed = λ s. kept_more k now (h.closed (λ i old. s i ((joins i).1 (inl old)))) (here (λ i new. s i ((joins i).1 (inr new))));
+    closed = λ s. kept_more k now (h.closed (λ i old. s i ((joins i).1 (inl old))))
+        (here (λ i new. s i ((joins i).1 (inr new))));
   }
 
 -- after the first rounds: each added a node
 pub record IsRound (reaches : ℕ → ℕ → Type 0) (nodes from round now : ℕ) : Type 0 where
   pub start : Has now from
   pub within : IsSubset now nodes
-  pub fits : now < 2 ^ 64
   pub reached : (v : ℕ) → Has now v → reaches from v
   pub many : round + 1 ≤ count_ones now
 
 module _ (reaches : ℕ → ℕ → Type 0) (nodes from : ℕ) where
-  pub IsRound-first : (none now : ℕ) → reaches from from → Has nodes from → ((i : ℕ) → Has none i → ⊥) → ((j : ℕ) → Has now j ↔ ((j ≡ from) ⊎ Has none j)) → now < 2 ^ 64 → IsRound reaches nodes from 0 now
-  IsRound-first none now itself node empty members fits = record {
+  pub IsRound-first : (none now : ℕ) → reaches from from → Has nodes from → ((i : ℕ) → Has none i → ⊥) →
+      ((j : ℕ) → Has now j ↔ ((j ≡ from) ⊎ Has none j)) → IsRound reaches nodes from 0 now
+  IsRound-first none now itself node empty members = record {
     start = here;
     within = λ j h. subst (Has nodes) (sym (alone j h)) node;
-    fits = fits;
     reached = λ j h. subst (reaches from) (sym (alone j h)) itself;
-    many = omega (arith, ones_some 64 now from fits here);
+    many = omega (arith, ones_some now from here);
   }
     where
       here : Has now from
@@ -71,22 +71,24 @@ module _ (reaches : ℕ → ℕ → Type 0) (nodes from : ℕ) where
       alone : (j : ℕ) → Has now j → j ≡ from
       alone j h = ⊎_elim (λ e. e) (λ g. absurd (empty j g)) ((members j).0 h)
 
-  pub IsRound-more : (round now next : ℕ) → IsRound reaches nodes from round now → IsSubset now next → IsSubset next nodes → next < 2 ^ 64 → ((u : ℕ) → ((v : ℕ) → Has now v → reaches u v) → (v : ℕ) → Has next v → reaches u v) → (IsSubset next now → ⊥) → IsRound reaches nodes from (round + 1) next
-  IsRound-more round now next h grown within fits reached f = record {
+  pub IsRound-more : (round now next : ℕ) → IsRound reaches nodes from round now → IsSubset now next →
+      IsSubset next nodes → ((u : ℕ) → ((v : ℕ) → Has now v → reaches u v) → (v : ℕ) → Has next v → reaches u v) →
+      (IsSubset next now → ⊥) → IsRound reaches nodes from (round + 1) next
+  IsRound-more round now next h grown within reached f = record {
     start = grown from h.start;
     within = within;
-    fits = fits;
     reached = reached from h.reached;
-    many = omega (arith, h.many, ones-grow 64 now next h.fits fits grown f);
+    many = omega (arith, h.many, ones-grow now next grown f);
   }
 
   -- there are fewer rounds than nodes
-  pub IsRound-early : (round now : ℕ) → IsRound reaches nodes from round now → nodes < 2 ^ 64 → round + 1 ≤ count_ones nodes
-  IsRound-early round now h fits = omega (arith, h.many, ones-below 64 now nodes h.fits fits h.within)
+  pub IsRound-early : (round now : ℕ) → IsRound reaches nodes from round now → round + 1 ≤ count_ones nodes
+  IsRound-early round now h = omega (arith, h.many, ones-below now nodes h.within)
 
   -- or than numbers below a bound on the nodes
-  pub IsRound-within : (n round now : ℕ) → IsRound reaches nodes from round now → ((i : ℕ) → Has nodes i → i < n) → round + 1 ≤ n
-  IsRound-within n round now h within = omega (arith, h.many, ones-within 64 now n h.fits (λ i here. within i (h.within i here)))
+  pub IsRound-within : (n round now : ℕ) → IsRound reaches nodes from round now → ((i : ℕ) → Has nodes i → i < n) →
+      round + 1 ≤ n
+  IsRound-within n round now h within = omega (arith, h.many, ones-within now n (λ i here. within i (h.within i here)))
 
 -- the nodes that are reached from each of the first k nodes
 pub record IsCommon (reaches : ℕ → ℕ → Type 0) (nodes k now : ℕ) : Type 0 where
@@ -107,39 +109,53 @@ module _ (reaches : ℕ → ℕ → Type 0) (nodes : ℕ) where
     complete = λ t node g. node;
   }
 
-  pub IsCommon-more : (k now found next : ℕ) → IsCommon reaches nodes k now → Has nodes k → ((v : ℕ) → Has found v ↔ reaches k v) → ((i : ℕ) → Has next i ↔ (Has now i × Has found i)) → IsCommon reaches nodes (k + 1) next
+  pub IsCommon-more : (k now found next : ℕ) → IsCommon reaches nodes k now → Has nodes k →
+      ((v : ℕ) → Has found v ↔ reaches k v) → ((i : ℕ) → Has next i ↔ (Has now i × Has found i)) →
+      IsCommon reaches nodes (k + 1) next
   IsCommon-more k now found next h node closure both = record {
     node = λ t g. h.node t ((both t).0 g).0;
-    reached = λ t g u l f. ⊎_elim (λ m. h.reached t ((both t).0 g).0 u m f) (λ m. subst (λ w. reaches w t) (omega arith) ((closure t).0 ((both t).0 g).1)) (cases_lt u k);
+    reached = λ t g u l f. ⊎_elim (λ m. h.reached t ((both t).0 g).0 u m f)
+        (λ m. subst (λ w. reaches w t) (omega arith) ((closure t).0 ((both t).0 g).1)) (cases_lt u k);
     complete = λ t n g. (both t).1 (h.complete t n g, (closure t).1 (g k node));
   }
 
   -- a node that reaches one of those before it reaches all that is common
-  pub IsCommon-through : (k now d : ℕ) → IsCommon reaches nodes k now → d < k → Has nodes d → reaches k d → ((t : ℕ) → reaches d t → reaches k t) → IsCommon reaches nodes (k + 1) now
+  pub IsCommon-through : (k now d : ℕ) → IsCommon reaches nodes k now → d < k → Has nodes d → reaches k d →
+      ((t : ℕ) → reaches d t → reaches k t) → IsCommon reaches nodes (k + 1) now
   IsCommon-through k now d h l node r over = record {
     node = h.node;
-    reached = λ t g u m f. ⊎_elim (λ n. h.reached t g u n f) (λ n. subst (λ w. reaches w t) (omega arith) (over t (h.reached t g d l node))) (cases_lt u k);
+    reached = λ t g u m f. ⊎_elim (λ n. h.reached t g u n f) (λ n. subst (λ w. reaches w t) (omega arith)
+        (over t (h.reached t g d l node))) (cases_lt u k);
     complete = h.complete;
   }
 
-  pub IsCommon-skip : (k now : ℕ) → IsCommon reaches nodes k now → (Has nodes k → ⊥) → IsCommon reaches nodes (k + 1) now
+  pub IsCommon-skip : (k now : ℕ) → IsCommon reaches nodes k now → (Has nodes k → ⊥) →
+      IsCommon reaches nodes (k + 1) now
   IsCommon-skip k now h out = record {
     node = h.node;
-    reached = λ t g u l f. ⊎_elim (λ m. h.reached t g u m f) (λ m. absurd (out (subst (Has nodes) (omega arith) f))) (cases_lt u k);
+    reached = λ t g u l f. ⊎_elim (λ m. h.reached t g u m f) (λ m. absurd (out (subst (Has nodes) (omega arith) f)))
+        (cases_lt u k);
     complete = h.complete;
   }
 
-  pub IsCommon-all : (k now : ℕ) → IsCommon reaches nodes k now → ((u : ℕ) → Has nodes u → u < k) → (t : ℕ) → Has now t ↔ IsLast reaches nodes t
-  IsCommon-all k now h within t = (λ g. record { node = h.node t g; reached = λ u f. h.reached t g u (within u f) f }, λ l. h.complete t l.node l.reached)
+  pub IsCommon-all : (k now : ℕ) → IsCommon reaches nodes k now → ((u : ℕ) → Has nodes u → u < k) → (t : ℕ) →
+      Has now t ↔ IsLast reaches nodes t
+  IsCommon-all k now h within t = (
+    λ g. record { node = h.node t g; reached = λ u f. h.reached t g u (within u f) f },
+    λ
+        l. h.complete t l.node l.reached,
+  )
 
-  pub IsCommon-none : (k now : ℕ) → IsCommon reaches nodes k now → ((i : ℕ) → Has now i → ⊥) → (t : ℕ) → Has now t ↔ IsLast reaches nodes t
+  pub IsCommon-none : (k now : ℕ) → IsCommon reaches nodes k now → ((i : ℕ) → Has now i → ⊥) → (t : ℕ) → Has now t ↔
+      IsLast reaches nodes t
   IsCommon-none k now h none t = (λ g. absurd (none t g), λ l. h.complete t l.node l.reached)
 
 -- the first k nodes
 abbrev pub AreBefore : ℕ → ℕ → ℕ → Type 0
 AreBefore nodes k before = (d : ℕ) → Has before d → (d < k) × Has nodes d
 
-pub AreBefore-more : (nodes k before next : ℕ) → AreBefore nodes k before → Has nodes k → ((j : ℕ) → Has next j ↔ ((j ≡ k) ⊎ Has before j)) → AreBefore nodes (k + 1) next
+pub AreBefore-more : (nodes k before next : ℕ) → AreBefore nodes k before → Has nodes k →
+    ((j : ℕ) → Has next j ↔ ((j ≡ k) ⊎ Has before j)) → AreBefore nodes (k + 1) next
 AreBefore-more nodes k before next h node members d here = ⊎_elim
     (λ e. (omega (arith, e), subst (Has nodes) (sym e) node))
     (λ old. let p = h d old in (omega (arith, p.0), p.1))

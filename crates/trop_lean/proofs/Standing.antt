@@ -1,32 +1,22 @@
 -- Fronts of systems, within the limit or stopped, as they grow.
--- Index: same_inequality, size_at, size_push, size_append, size_drop, size_slice, inside_at, front_short,
--- front_and_rest, slice_is, no_front, front_and_slice, front_push, whole_front, pushed_more, pushed_rest, fronts_none,
--- fronts_push, fronts_as, fronts_no_stop, stops_longer, stopped_longer, stopped_as, refused_there.
-use Rattle.std.proofs.Common.{◌≡◌, ◌<◌, ◌≤◌, ◌+◌, ◌-◌, ℕ, zero, suc, List, [], ◌∷◌, ◌++◌, length, take, drop, get_or, ⊎_elim, sym, ap, ◌∙◌, refl, arith, subst}
-use Rattle.std.specs.Prelude.{All}
+-- Index: size_push, size_append, size_drop, size_slice, front_short, front_and_rest, slice_is, no_front,
+-- front_and_slice, front_push, whole_front, fronts_none, fronts_later, fronts_as, fronts_no_stop,
+-- stops_longer, stopped_longer, stopped_as, stopped_later.
+use Rattle.std.proofs.Common.{◌≡◌, ◌<◌, ◌≤◌, ◌+◌, ◌-◌, ℕ, zero, suc, List, [], ◌∷◌, ◌++◌, length, take, drop, ⊎_elim, sym, ap, ◌∙◌, refl, arith, subst}
 use Rattle.std.proofs.lemmas.Bool.{cases_lt}
-use Rattle.std.proofs.lemmas.List.{take_all, take_more, take-append-le, take-append-drop, length_push, length-append, length-take, length-drop, append_assoc}
+use Rattle.std.proofs.lemmas.List.{take_all, take-append-le, take-append-drop, length-append, length-take, length-drop}
 use Rattle.trop_theory.specs.Semiring.{Semiring}
-use Rattle.trop_theory.specs.Inequalities.{Inequality, Solves, IsIn, inequality_size, system_size}
+use Rattle.trop_theory.specs.Inequalities.{Inequality, Solves, inequality_size, system_size}
 use Rattle.trop_theory.specs.Canonical.{IsOverLimit}
 use Rattle.trop_theory.proofs.Distinct.{within_limit}
 use Rattle.trop_cones.specs.RowStops.{IsRowsStop}
 use Rattle.trop_dd.specs.declared.error.DdErr.{DdErr}
 use Rattle.trop_dd.specs.declared.error.DdErr.TheVariants.{Limit, NoMemory}
-use Rattle.trop_dd.specs.Description.{Describes, IsRefusedBy}
+pub use Rattle.trop_dd.proofs.Conversions.{size_at, inside_at}
+use Rattle.trop_dd.specs.Description.{Describes, AreLaterWithin, IsStoppedBehind}
 use Rattle.trop_lean.specs.Fronts.{AreFrontsWithin, IsStoppedAt}
 
--- ---- copies and sizes
-pub same_inequality : {V : Type 0} (p q : Inequality V) → p.left ≡ q.left → p.right ≡ q.right → p ≡ q
-same_inequality p q e f = ap (λ l. record { left = l; right = p.right }) e
-    ∙ ap (λ r. record { left = q.left; right = r }) f
-
-pub size_at : {V : Type 0} (R : Semiring V) (system : List (Inequality V)) (i : ℕ) (p : Inequality V) →
-    i < length system → p ≡ get_or system i p → inequality_size R p ≤ system_size R system
-size_at R [] i p l e = absurd (omega arith)
-size_at R (q ∷ system) zero p l e = omega (arith, ap (inequality_size R) e)
-size_at R (q ∷ system) (suc i) p l e = omega (arith, size_at R system i p (omega arith) e)
-
+-- ---- sizes
 pub size_push : {V : Type 0} (R : Semiring V) (system : List (Inequality V)) (p : Inequality V) (m : ℕ) →
     system_size R system ≤ m → inequality_size R p ≤ m → system_size R (system ++ p ∷ []) ≤ m
 size_push R [] p m h l = omega arith
@@ -52,10 +42,6 @@ size_drop R (suc k) (q ∷ system) = omega (arith, size_drop R k system)
 pub size_slice : {V : Type 0} (R : Semiring V) (m k : ℕ) (system : List (Inequality V)) →
     system_size R (take m (drop k system)) ≤ system_size R system
 size_slice R m k system = omega (arith, size_take R m (drop k system), size_drop R k system)
-
-pub inside_at : {V : Type 0} (n : ℕ) (system : List (Inequality V)) (i : ℕ) (p : Inequality V) → All (IsIn n) system →
-    i < length system → p ≡ get_or system i p → IsIn n p
-inside_at n system i p h l e = subst (IsIn n) (sym e) (h i p l)
 
 -- ---- a front of a list
 pub front_short : {X : Type 0} (front whole : List X) → front ≡ take (length front) whole → length front ≤ length whole
@@ -87,33 +73,19 @@ front_push front whole p e = e ∙ sym (take-append-le (length front) whole (p �
 pub whole_front : {X : Type 0} (whole : List X) → whole ≡ take (length whole) whole
 whole_front whole = sym (take_all (length whole) whole (omega arith))
 
--- what is pushed on so far, and one more of it
-pub pushed_more : {X : Type 0} (first more now : List X) (i : ℕ) (p : X) → i < length more → p ≡ get_or more i p →
-    now ≡ first ++ take i more → now ++ p ∷ [] ≡ first ++ take (i + 1) more
-pushed_more first more now i p l e h =
-    ap (λ s. s ++ p ∷ []) h ∙ append_assoc first (take i more) (p ∷ []) ∙ ap (λ q. first ++ (take i more ++ q ∷ [])) e
-    ∙ ap (λ s. first ++ s) (sym (take_more more i p l))
-
-pub pushed_rest : {X : Type 0} (first more now : List X) (i : ℕ) (p : X) → i < length more → p ≡ get_or more i p →
-    now ≡ first ++ take i more → (now ++ p ∷ []) ++ drop (i + 1) more ≡ first ++ more
-pushed_rest first more now i p l e h =
-    ap (λ s. s ++ drop (i + 1) more) (pushed_more first more now i p l e h) ∙ append_assoc first (take (i + 1) more)
-    (drop (i + 1) more) ∙ ap (λ s. first ++ s) (take-append-drop (i + 1) more)
-
 module _ {V : Type 0} (R : Semiring V) (n : ℕ) where
   -- ---- fronts within the limit
   pub fronts_none : (rows : List (List V)) → Describes R n [] rows → AreFrontsWithin R n []
   fronts_none rows h zero l o = within_limit R (Solves R n []) rows h.canonical h.within o
   fronts_none rows h (suc j) l o = absurd (omega arith)
 
-  pub fronts_push : (system : List (Inequality V)) (p : Inequality V) → AreFrontsWithin R n system →
-      (IsOverLimit R (Solves R n (system ++ p ∷ [])) → ⊥) → AreFrontsWithin R n (system ++ p ∷ [])
-  fronts_push system p h new j l o = ⊎_elim
-      (λ a. let short : j ≤ length system = omega arith in
-      h j short (subst (λ s. IsOverLimit R (Solves R n s)) (take-append-le j system (p ∷ []) short) o))
-      (λ a. new (subst (λ s. IsOverLimit R (Solves R n s))
-      (take_all j (system ++ p ∷ []) (omega (arith, length_push system p))) o))
-      (cases_lt j (length system + 1))
+  -- and those of what was pushed behind it
+  pub fronts_later : (system more : List (Inequality V)) → AreFrontsWithin R n system →
+      AreLaterWithin R n (length system) (system ++ more) → AreFrontsWithin R n (system ++ more)
+  fronts_later system more h later j l o = ⊎_elim
+      (λ a. later j a l o)
+      (λ a. h j (omega arith) (subst (λ s. IsOverLimit R (Solves R n s)) (take-append-le j system more (omega arith)) o))
+      (cases_lt (length system) j)
 
   pub fronts_as : (m : ℕ) (s t : List (Inequality V)) → m ≡ n → s ≡ t → AreFrontsWithin R n t → AreFrontsWithin R m s
   fronts_as m s t em es h = subst (λ k. AreFrontsWithin R k s) (sym em) (subst (AreFrontsWithin R n) (sym es) h)
@@ -143,20 +115,16 @@ module _ {V : Type 0} (R : Semiring V) (n : ℕ) where
       IsStoppedAt R n t err
   stopped_as m s t err em es h = subst (λ k. IsStoppedAt R k t err) em (subst (λ u. IsStoppedAt R m u err) es h)
 
-  -- one inequality too many
-  stops_there : (system : List (Inequality V)) (p : Inequality V) (k : ℕ) → AreFrontsWithin R n system →
-      k ≡ length (system ++ p ∷ []) → IsOverLimit R (Solves R n (system ++ p ∷ [])) →
-      IsRowsStop R n (system ++ p ∷ []) k
-  stops_there system p k h e o = record {
-    within = omega arith;
-    over = subst (λ t. IsOverLimit R (Solves R n t)) (sym (take_all k (system ++ p ∷ []) (omega arith))) o;
-    least = λ j l over. let short : j ≤ length system = omega (arith, length_push system p) in
-        h j short (subst (λ t. IsOverLimit R (Solves R n t)) (take-append-le j system (p ∷ []) short) over);
+  -- what stops behind a system of which each front is within the limit
+  pub stopped_later : (system more : List (Inequality V)) (err : DdErr) → AreFrontsWithin R n system →
+      IsStoppedBehind R n (length system) (system ++ more) err → IsStoppedAt R n (system ++ more) err
+  stopped_later system more NoMemory h s = tt
+  stopped_later system more (Limit k) h s = record {
+    within = s.1;
+    over = s.2;
+    least = λ j l o. ⊎_elim
+        (λ a. s.3 j a l o)
+        (λ a. h j (omega arith)
+        (subst (λ t. IsOverLimit R (Solves R n t)) (take-append-le j system more (omega arith)) o))
+        (cases_lt (length system) j);
   }
-
-  pub refused_there : (system more whole : List (Inequality V)) (p : Inequality V) (err : DdErr) →
-      (system ++ p ∷ []) ++ more ≡ whole → AreFrontsWithin R n system → IsRefusedBy R n (system ++ p ∷ []) err →
-      IsStoppedAt R n whole err
-  refused_there system more whole p NoMemory e h r = tt
-  refused_there system more whole p (Limit k) e h r =
-      subst (λ t. IsRowsStop R n t k) e (stops_longer (system ++ p ∷ []) more k (stops_there system p k h r.0 r.1))

@@ -7,3 +7,5 @@ pub mod KeptRow
 pub mod SlotListing
 pub mod NewRow
 pub mod Putting
+pub mod Sparing
+pub mod Fading

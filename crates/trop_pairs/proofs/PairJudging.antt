@@ -38,7 +38,7 @@ skips_less R l m skips more firsts seconds places old new f h = record {
 never : IsTrue false → ⊥
 never e = cc
 
-not_both : (b : Bool) → IsTrue (not b) → IsTrue b → ⊥
+pub not_both : (b : Bool) → IsTrue (not b) → IsTrue b → ⊥
 not_both true h k = never h
 not_both false h k = never k
 

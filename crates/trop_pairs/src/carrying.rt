@@ -1,5 +1,6 @@
 // A new row with what is carried beside it.
-ghost use Rattle.std.specs.Prelude.{◌≡◌, ◌≢◌, ◌⊎◌, ◌↔◌, ◌+◌, ◌^◌, ◌≤◌, ◌++◌, [], ◌∷◌, ℕ, All, IfOk};
+ghost use Rattle.std.specs.Prelude.{◌≡◌, ◌≢◌, ◌⊎◌, ◌↔◌, ◌+◌, ◌≤◌, ◌++◌, [], ◌∷◌, ℕ, All, IfOk};
+ghost use Rattle.trop_theory.specs.Sizes.{most_element};
 ghost use Rattle.trop_theory.specs.Vectors.{dot};
 ghost use Rattle.trop_theory.specs.Inequalities.{IsIn, Solves};
 ghost use Rattle.trop_criterion.specs.Hypergraphs.{Has};
@@ -23,7 +24,7 @@ use trop_scalar::Scalar;
 /// dropped one
 /// and the coordinates there that reach it.
 pub fn new_slot<S: Scalar>(kept: RowSlot<S>, left: S, reached: Mask) -> RowSlot<S>
-    requires { S.ring.size left + S.ring.size kept.sum ≤ 2 ^ 62 }
+    requires { S.ring.size left + S.ring.size kept.sum ≤ most_element }
     ensures sum { result.sum ≡ S.ring.times left kept.sum }
     ensures tail { (j : ℕ) → Has result.tail j ↔ Has kept.tail j }
     ensures head { (i : ℕ) → Has result.head i ↔ (Has kept.head i ⊎ Has reached i) }
@@ -62,8 +63,8 @@ pub fn carry<S: Scalar>(
     requires cover { IsCover S.ring (system.now.inequalities ++ ineq.now ∷ []) row cover }
     requires slot { IsSlot S.ring row ineq.now slot }
     requires edge { HasEdge slot }
-    requires left_size { All (λ slot. S.ring.size left + S.ring.size slot.sum ≤ 2 ^ 62) first.now.slots }
-    requires right_size { All (λ slot. S.ring.size right + S.ring.size slot.sum ≤ 2 ^ 62) second.now.slots }
+    requires left_size { All (λ slot. S.ring.size left + S.ring.size slot.sum ≤ most_element) first.now.slots }
+    requires right_size { All (λ slot. S.ring.size right + S.ring.size slot.sum ≤ most_element) second.now.slots }
     ensures side { IfOk result (IsSide S.ring system.now.n (system.now.inequalities ++ ineq.now ∷ [])) }
     ensures row { IfOk result (λ side. side.row ≡ row) }
 {

@@ -1,6 +1,7 @@
 // Which pairs give an extreme row, by what is carried.
 ghost use Rattle.std.specs.Prelude.{◌≡◌, ◌+◌, ◌^◌, ◌<◌, ◌≤◌, ◌++◌, [], ◌∷◌, ℕ, List, All, IsTrue, IfOk, OnOk, length, min};
 ghost use Rattle.trop_criterion.specs.Hypergraphs.{Has, IsGreatest};
+ghost use Rattle.trop_theory.specs.Sizes.{most_element};
 ghost use Rattle.trop_theory.specs.Normal.{Normalises};
 ghost use Rattle.trop_theory.specs.Inequalities.{Solves};
 ghost use Rattle.trop_theory.specs.Steps.{mixed};
@@ -48,8 +49,8 @@ pub fn judge<S: Scalar>(
     looks: &mut Looks,
 ) -> Result<Option<Mask>, AllocError>
     requires pair { IsPair S.ring system.now.n system.now.inequalities ineq.now first.now second.now left right slot }
-    requires left_size { All (λ slot. S.ring.size left + S.ring.size slot.sum ≤ 2 ^ 62) first.now.slots }
-    requires right_size { All (λ slot. S.ring.size right + S.ring.size slot.sum ≤ 2 ^ 62) second.now.slots }
+    requires left_size { All (λ slot. S.ring.size left + S.ring.size slot.sum ≤ most_element) first.now.slots }
+    requires right_size { All (λ slot. S.ring.size right + S.ring.size slot.sum ≤ most_element) second.now.slots }
     ensures types { IfOk result (IsJudged S.ring system.now.n system.now.inequalities ineq.now first.now.row
         second.now.row) }
     ensures edges { OnOk result ((x : List S) → Normalises S.ring

@@ -1,5 +1,6 @@
 // A row that is kept, after one more inequality.
-ghost use Rattle.std.specs.Prelude.{◌≡◌, ◌+◌, ◌^◌, ◌≤◌, ◌++◌, [], ◌∷◌, ℕ, All, IfOk, length};
+ghost use Rattle.std.specs.Prelude.{◌≡◌, ◌+◌, ◌≤◌, ◌++◌, [], ◌∷◌, ℕ, All, IfOk, length};
+ghost use Rattle.trop_theory.specs.Sizes.{most_element};
 ghost use Rattle.trop_theory.specs.Inequalities.{IsIn, IsTrueAt};
 ghost use Rattle.trop_criterion.specs.Hypergraphs.{Has};
 ghost use Rattle.trop_pruning.specs.Slots.{IsSlot};
@@ -64,7 +65,7 @@ pub fn types_with<S: Scalar>(
     requires holds { IsTrueAt S.ring ineq.now side.now.row }
     requires slot { IsSlot S.ring side.now.row ineq.now slot }
     requires edge { HasEdge slot }
-    requires sizes { All (λ slot. S.ring.size S.ring.one + S.ring.size slot.sum ≤ 2 ^ 62) side.now.slots }
+    requires sizes { All (λ slot. S.ring.size S.ring.one + S.ring.size slot.sum ≤ most_element) side.now.slots }
     ensures types { IfOk result (AreTypes S.ring system.now.n (system.now.inequalities ++ ineq.now ∷ []) side.now.row) }
     ensures looks { looks.old ≤ looks.new }
 {
@@ -96,7 +97,7 @@ pub fn addition_of<S: Scalar>(
     requires some { (t : ℕ) × Has side.now.words.types t }
     requires holds { IsTrueAt S.ring ineq.now side.now.row }
     requires slot { IsSlot S.ring side.now.row ineq.now slot }
-    requires sizes { All (λ slot. S.ring.size S.ring.one + S.ring.size slot.sum ≤ 2 ^ 62) side.now.slots }
+    requires sizes { All (λ slot. S.ring.size S.ring.one + S.ring.size slot.sum ≤ most_element) side.now.slots }
     ensures addition { IfOk result (λ found. IsAddition S.ring system.now.n system.now.inequalities ineq.now side.now
         found.slot found.types found.alone) }
     ensures looks { looks.old ≤ looks.new }

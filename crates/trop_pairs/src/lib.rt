@@ -5,6 +5,7 @@
 
 mod carried;
 mod carrying;
+mod early;
 mod filling;
 mod graph;
 mod judging;
@@ -16,6 +17,7 @@ mod words;
 
 pub use carried::Carried;
 pub use carrying::{carry, new_slot};
+pub use early::fades;
 pub use filling::fill_pair;
 pub use graph::add_all;
 pub use judging::judge;

@@ -1,5 +1,6 @@
 // The slots of a new row, and its cover.
 ghost use Rattle.std.specs.Prelude.{◌≡◌, ◌+◌, ◌^◌, ◌<◌, ◌≤◌, ◌++◌, [], ◌∷◌, ℕ, All, IfOk, OnOk, length, min};
+ghost use Rattle.trop_theory.specs.Sizes.{most_element};
 ghost use Rattle.trop_criterion.specs.Hypergraphs.{Has};
 ghost use Rattle.trop_pruning.specs.Open.{IsOpen};
 ghost use Rattle.trop_pruning.specs.PairEdges.{slot_at};
@@ -22,7 +23,8 @@ pub struct Slots<S: Scalar> {
 // Puts one more slot behind those that are there.
 fn push_slot<S: Scalar>(all: &mut Slots<S>, slot: RowSlot<S>) -> Result<(), AllocError>
     ensures slots { OnOk result (all.new.slots.items ≡ all.old.slots.items ++ slot ∷ []) }
-    ensures places { OnOk result (AddsPlace slot (length all.old.slots.items) all.old.places.items all.new.places.items) }
+    ensures places { OnOk result (AddsPlace slot (length all.old.slots.items) all.old.places.items
+        all.new.places.items) }
 {
     if slot.head.is_empty() {
         all.slots.push(slot)?;
@@ -42,8 +44,8 @@ pub fn merge_all<S: Scalar>(
     right: S,
 ) -> Result<Slots<S>, AllocError>
     requires lengths { length first.now ≡ length second.now }
-    requires left_size { All (λ slot. S.ring.size left + S.ring.size slot.sum ≤ 2 ^ 62) first.now }
-    requires right_size { All (λ slot. S.ring.size right + S.ring.size slot.sum ≤ 2 ^ 62) second.now }
+    requires left_size { All (λ slot. S.ring.size left + S.ring.size slot.sum ≤ most_element) first.now }
+    requires right_size { All (λ slot. S.ring.size right + S.ring.size slot.sum ≤ most_element) second.now }
     ensures { IfOk result (λ all. AreMergedTo S.ring left right first.now second.now
         (length first.now) all.slots.items all.places.items) }
 {

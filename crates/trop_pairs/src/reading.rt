@@ -1,5 +1,6 @@
 // The slot of an inequality at a row, from its two sums there.
-ghost use Rattle.std.specs.Prelude.{◌≡◌, ◌≢◌, ◌+◌, ◌^◌, ◌≤◌, ◌↔◌, ℕ, IsTrue, length};
+ghost use Rattle.std.specs.Prelude.{◌≡◌, ◌≢◌, ◌+◌, ◌≤◌, ◌↔◌, ℕ, IsTrue, length};
+ghost use Rattle.trop_theory.specs.Sizes.{most_coefficient, most_element, most_entry};
 ghost use Rattle.trop_theory.specs.Vectors.{dot, row_size};
 ghost use Rattle.trop_theory.specs.Inequalities.{IsIn, inequality_size};
 ghost use Rattle.trop_criterion.specs.Hypergraphs.{Has};
@@ -22,9 +23,10 @@ pub fn is_zero<S: Scalar>(x: S) -> bool
 /// The coordinates where the side reaches its sum, none where this is the zero.
 pub fn reaching<S: Scalar>(side: &Row<S>, row: &Row<S>, sum: S) -> Mask
     requires lengths { length side.now ≡ length row.now }
-    requires sizes { row_size S.ring side.now + row_size S.ring row.now ≤ 2 ^ 62 }
+    requires sizes { row_size S.ring side.now + row_size S.ring row.now ≤ most_element }
     requires sum { sum ≡ dot S.ring side.now row.now }
-    ensures { (j : ℕ) → Has result j ↔ ((dot S.ring side.now row.now ≢ S.ring.zero) × Attains S.ring side.now row.now j) }
+    ensures { (j : ℕ) → Has result j ↔ ((dot S.ring side.now row.now ≢ S.ring.zero) ×
+        Attains S.ring side.now row.now j) }
 {
     if is_zero(sum) {
         return Mask::empty();
@@ -35,8 +37,8 @@ pub fn reaching<S: Scalar>(side: &Row<S>, row: &Row<S>, sum: S) -> Mask
 /// The slot of the inequality at the row, where `left` and `right` are its sums.
 pub fn slot_of<S: Scalar>(ineq: &Ineq<S>, row: &Row<S>, left: S, right: S) -> RowSlot<S>
     requires inside { IsIn (length row.now) ineq.now }
-    requires row_size { row_size S.ring row.now ≤ 2 ^ 60 }
-    requires size { inequality_size S.ring ineq.now ≤ 2 ^ 49 }
+    requires row_size { row_size S.ring row.now ≤ most_entry }
+    requires size { inequality_size S.ring ineq.now ≤ most_coefficient }
     requires left { left ≡ dot S.ring ineq.now.left row.now }
     requires right { right ≡ dot S.ring ineq.now.right row.now }
     ensures { IsSlot S.ring row.now ineq.now result }

@@ -1,15 +1,14 @@
 -- Rows that represent a cone: the same under another name, and the first cones.
-use Rattle.std.proofs.Common.{◌≡◌, ◌<◌, ◌≤◌, ◌+◌, ℕ, List, [], ◌∷◌, ◌++◌, length, take, get_or, sym, ap, ◌∙◌, refl, subst, arith, max}
-use Rattle.std.specs.Prelude.{All, ◌↔◌}
-use Rattle.std.proofs.lemmas.List.{length-replicate, take_more}
+use Rattle.std.proofs.Common.{◌≡◌, ◌<◌, ◌≤◌, ◌+◌, ℕ, List, [], ◌∷◌, ◌++◌, length, sym, ap, ◌∙◌, refl, subst, arith}
+use Rattle.std.specs.Prelude.{◌↔◌}
+use Rattle.std.proofs.lemmas.List.{length-replicate}
 use Rattle.std.proofs.lemmas.List.Elements.{All-nil}
 use Rattle.trop_theory.specs.Semiring.{Semiring, SemiringLaws}
-use Rattle.trop_theory.specs.Vectors.{bottom, row_size, rows_size}
+use Rattle.trop_theory.specs.Vectors.{bottom}
 use Rattle.trop_theory.specs.Normal.{IsNormal}
 use Rattle.trop_theory.specs.Inequalities.{Inequality, IsTrueAt, Solves}
 use Rattle.trop_theory.specs.Combinations.{combined, IsCombination}
 use Rattle.trop_theory.specs.Extreme.{IsExtreme}
-use Rattle.trop_theory.specs.Canonical.{IsOverLimit}
 use Rattle.trop_cones.specs.Represents.{Represents}
 use Rattle.trop_cones.proofs.Represented.{Represents-same, Represents-itself}
 use Rattle.trop_duality.proofs.Polars.{IsOverLimit-same}
@@ -81,27 +80,6 @@ module _ {V : Type 0} (R : Semiring V) where
     );
     within = omega arith;
   }
-
-  -- ---- the greatest size of an entry
-  pub row_size-last : (x : List V) (a : V) → row_size R (x ++ a ∷ []) ≡ max (row_size R x) (R.size a)
-  row_size-last [] a = omega arith
-  row_size-last (b ∷ x) a = omega (arith, row_size-last x a)
-
-  pub rows_size-last : (rows : List (List V)) (g : List V) →
-      rows_size R (rows ++ g ∷ []) ≡ max (rows_size R rows) (row_size R g)
-  rows_size-last [] g = omega arith
-  rows_size-last (h ∷ rows) g = omega (arith, rows_size-last rows g)
-
-  -- of one more entry, or of one more row
-  pub row_size-taken : (xs : List V) (i : ℕ) (x : V) → i < length xs → x ≡ get_or xs i x →
-      row_size R (take (i + 1) xs) ≡ max (row_size R (take i xs)) (R.size x)
-  row_size-taken xs i x l read = ap (row_size R) (take_more xs i x l ∙ ap (λ z. take i xs ++ z ∷ []) (sym read))
-      ∙ row_size-last (take i xs) x
-
-  pub rows_size-taken : (xs : List (List V)) (i : ℕ) (x : List V) → i < length xs → x ≡ get_or xs i x →
-      rows_size R (take (i + 1) xs) ≡ max (rows_size R (take i xs)) (row_size R x)
-  rows_size-taken xs i x l read = ap (rows_size R) (take_more xs i x l ∙ ap (λ z. take i xs ++ z ∷ []) (sym read))
-      ∙ rows_size-last (take i xs) x
 
 -- a cone is its number of coordinates and its rows
 pub same_cone : {V : Type 0} (n m : ℕ) (rows others : List (List V)) → m ≡ n → others ≡ rows → (cone : Cone V) →

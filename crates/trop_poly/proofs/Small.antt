@@ -16,7 +16,7 @@ use Rattle.trop_theory.proofs.Canonical.{multiple_from_extreme, IsCanonical-same
 use Rattle.trop_theory.proofs.SameCones.{row_size-scaled}
 use Rattle.trop_criterion.proofs.Criterion.{All-system_size}
 use Rattle.trop_criterion.proofs.SizeBound.{extreme_row_small}
-use Rattle.trop_row.proofs.Steps.{rows_size-at}
+use Rattle.trop_row.proofs.Sizes.{rows_size-at}
 use Rattle.trop_cones.specs.Sets.{InMeet}
 use Rattle.trop_cones.proofs.Sizes.{size_entry, rows_size-each, system_size-each}
 use Rattle.trop_duality.specs.External.{IsExternal}

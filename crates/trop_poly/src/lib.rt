@@ -9,7 +9,6 @@ mod comparing;
 mod copying;
 mod error;
 mod images;
-mod largest;
 mod narrowing;
 mod poly;
 

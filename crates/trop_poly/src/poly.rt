@@ -19,12 +19,11 @@ ghost use Rattle.trop_poly.specs.Refusals.{IsConeRefusal, IsSystemRefusal, IsExt
 use crate::bounds::bounds_of;
 use crate::copying::copied;
 use crate::error::PolyErr;
-use crate::largest::largest_of;
 use std::alloc::{AllocError, Global};
 use std::marker::Model;
 use trop_dd::{Dd, DdErr, extreme_rows};
 use trop_hyper::Looks;
-use trop_row::{Gens, System, reduce};
+use trop_row::{Gens, System, reduce, rows_size};
 use trop_scalar::Scalar;
 
 type NoMemory = AllocError;
@@ -149,7 +148,7 @@ impl<S: Scalar> Poly<S> {
     pub fn size(&self) -> u64
         ensures { result ≡ rows_size S.ring self.now.rows }
     {
-        largest_of(self.rows.as_slice())
+        rows_size(self.rows.as_slice())
     }
 
     /// The same cone.

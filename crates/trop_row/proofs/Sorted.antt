@@ -20,12 +20,7 @@ use Rattle.trop_theory.specs.Compare.{compare, compare_rows}
 use Rattle.std.proofs.Common.{ap₂}
 use Rattle.trop_theory.proofs.CompareLaws.{compare_rows_total, RowBelow-from_Less, from_Equal}
 use Rattle.trop_theory.proofs.SameCones.{SameCone-from_contains}
-use Rattle.trop_row.proofs.Steps.{rows_size-at}
-
-pub rows_size-from_all : {V : Type 0} (R : Semiring V) (rows : List (List V)) (n : ℕ) → ((k : ℕ) (d : List V) → k < length rows → row_size R (get_or rows k d) ≤ n) → rows_size R rows ≤ n
-rows_size-from_all R [] n h = omega arith
-rows_size-from_all R (x ∷ rows) n h =
-    omega (arith, h 0 [] (omega arith), rows_size-from_all R rows n (λ k d l. h (suc k) d (omega arith)))
+use Rattle.trop_row.proofs.Sizes.{rows_size-at, rows_size-from_all}
 
 eq_from_true : (o : Ordering) → is_eq o ≡ true → o ≡ Equal
 eq_from_true Less e = cc
@@ -37,10 +32,12 @@ then_Equal Less p e = absurd (let x : Less ≡ Equal = e in cc)
 then_Equal Equal p e = (refl, e)
 then_Equal Greater p e = absurd (let x : Greater ≡ Equal = e in cc)
 
-each_contained : {X : Type 0} (xs : List X) (ys : List X) → ((x : X) → Contains xs x → Contains ys x) → All (Contains ys) xs
+each_contained : {X : Type 0} (xs : List X) (ys : List X) → ((x : X) → Contains xs x → Contains ys x) →
+    All (Contains ys) xs
 each_contained xs ys h k d l = h (get_or xs k d) (k, l, get_or_default xs k (get_or xs k d) d l)
 
-module _ {V : Type 0} {R : Semiring V} (laws : SemiringLaws R) (same : V → V → Bool) (decides : (a b : V) → (same a b ≡ true) ↔ (a ≡ b)) where
+module _ {V : Type 0} {R : Semiring V} (laws : SemiringLaws R) (same : V → V → Bool)
+    (decides : (a b : V) → (same a b ≡ true) ↔ (a ≡ b)) where
   pub rows_from_Equal : (x y : List V) → compare_rows same R x y ≡ Equal → x ≡ y
   rows_from_Equal [] [] e = refl
   rows_from_Equal [] (b ∷ y) e = cc
@@ -54,7 +51,9 @@ module _ {V : Type 0} {R : Semiring V} (laws : SemiringLaws R) (same : V → V �
   increasing [] h = λ i j d p q. absurd (omega arith)
   increasing (x ∷ rows) h =
       AllPairs-cons (RowBelow R) x rows
-      (All-weaker (λ y. compare_rows same R x y ≡ Less) (RowBelow R x) (λ y e. RowBelow-from_Less laws same decides x y e) rows (All-from_recursion (λ y. compare_rows same R x y ≡ Less) rows h.0))
+      (All-weaker (λ y. compare_rows same R x y ≡ Less) (RowBelow R x)
+      (λ y e. RowBelow-from_Less laws same decides x y e) rows
+      (All-from_recursion (λ y. compare_rows same R x y ≡ Less) rows h.0))
       (increasing rows h.1)
 
   -- the outcome of `sort` and `dedup`
@@ -65,17 +64,22 @@ module _ {V : Type 0} {R : Semiring V} (laws : SemiringLaws R) (same : V → V �
     pub sizes : rows_size R new ≤ 2 ^ 60
     pub cones : SameCone R n old new
 
-  pub sorts : (n : ℕ) (old sorted new : List (List V)) → AreWide n old → All (IsNormal R) old → rows_size R old ≤ 2 ^ 60 → IsPermutation old sorted → IsSorted (compare_rows same R) sorted → new ≡ dedup (eq_by_cmp (compare_rows same R)) sorted → Sorts n old new
+  pub sorts : (n : ℕ) (old sorted new : List (List V)) → AreWide n old → All (IsNormal R) old →
+      rows_size R old ≤ 2 ^ 60 → IsPermutation old sorted → IsSorted (compare_rows same R) sorted →
+      new ≡ dedup (eq_by_cmp (compare_rows same R)) sorted → Sorts n old new
   sorts n old sorted new w normal s moved is_sorted e = subst (Sorts n old) (sym e) outcome
     where
       left : List (List V)
       left = dedup (eq_by_cmp (compare_rows same R)) sorted
 
       from_left : (x : List V) → Contains (dedup (eq_by_cmp (compare_rows same R)) sorted) x → Contains old x
-      from_left x h = Contains-permutation sorted old x (IsPermutation-sym old sorted moved) (Contains-from_dedup (eq_by_cmp (compare_rows same R)) sorted x h)
+      from_left x h = Contains-permutation sorted old x (IsPermutation-sym old sorted moved)
+          (Contains-from_dedup (eq_by_cmp (compare_rows same R)) sorted x h)
 
       to_left : (x : List V) → Contains old x → Contains (dedup (eq_by_cmp (compare_rows same R)) sorted) x
-      to_left x h = Contains-dedup (eq_by_cmp_equiv (compare_rows_total laws same decides)) (λ a b t. rows_from_Equal a b (eq_from_true (compare_rows same R a b) t)) sorted x (Contains-permutation old sorted x moved h)
+      to_left x h = Contains-dedup (eq_by_cmp_equiv (compare_rows_total laws same decides))
+          (λ a b t. rows_from_Equal a b (eq_from_true (compare_rows same R a b) t)) sorted x
+          (Contains-permutation old sorted x moved h)
 
       there : All (Contains old) (dedup (eq_by_cmp (compare_rows same R)) sorted)
       there = each_contained (dedup (eq_by_cmp (compare_rows same R)) sorted) old from_left
@@ -90,7 +94,10 @@ module _ {V : Type 0} {R : Semiring V} (laws : SemiringLaws R) (same : V → V �
       outcome = record {
         wide = wide;
         normal = λ k d l. All-contains (IsNormal R) old _ normal (there k d l);
-        ascending = increasing (dedup (eq_by_cmp (compare_rows same R)) sorted) (IsStrictlySortedBy-dedup (compare_rows_total laws same decides) (λ x y. refl) sorted is_sorted);
-        sizes = rows_size-from_all R (dedup (eq_by_cmp (compare_rows same R)) sorted) (2 ^ 60) (λ k d l. All-contains (λ row. row_size R row ≤ 2 ^ 60) old _ size_of (there k d l));
-        cones = SameCone-from_contains laws n old (dedup (eq_by_cmp (compare_rows same R)) sorted) w wide (each_contained old (dedup (eq_by_cmp (compare_rows same R)) sorted) to_left) there;
+        ascending = increasing (dedup (eq_by_cmp (compare_rows same R)) sorted)
+            (IsStrictlySortedBy-dedup (compare_rows_total laws same decides) (λ x y. refl) sorted is_sorted);
+        sizes = rows_size-from_all R (dedup (eq_by_cmp (compare_rows same R)) sorted) (2 ^ 60)
+            (λ k d l. All-contains (λ row. row_size R row ≤ 2 ^ 60) old _ size_of (there k d l));
+        cones = SameCone-from_contains laws n old (dedup (eq_by_cmp (compare_rows same R)) sorted) w wide
+            (each_contained old (dedup (eq_by_cmp (compare_rows same R)) sorted) to_left) there;
       }

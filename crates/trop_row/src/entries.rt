@@ -1,6 +1,7 @@
-// What is done with the entries of rows.
-ghost use Rattle.std.specs.Prelude.{◌≡◌, ◌≢◌, ◌+◌, ◌^◌, ◌<◌, ◌≤◌, ◌↔◌, ℕ, IsTrue, MatchOption, length, map, slice_set};
+//! What is done with the entries of rows.
+ghost use Rattle.std.specs.Prelude.{◌≡◌, ◌≢◌, ◌+◌, ◌<◌, ◌≤◌, ◌↔◌, ℕ, IsTrue, MatchOption, length, map, slice_set};
 ghost use Rattle.std.specs.Bool.{OnTrue, OnFalse};
+ghost use Rattle.trop_theory.specs.Sizes.{most_element, most_entry};
 ghost use Rattle.trop_theory.specs.Semiring.{Le};
 ghost use Rattle.trop_theory.specs.Vectors.{entry, scaled, joined, row_size, bottom, Below};
 ghost use Rattle.trop_theory.specs.Normal.{Normalises};
@@ -27,7 +28,7 @@ pub fn put<S: Scalar>(entries: &mut [S], i: usize, c: S)
 
 // Multiplies each entry.
 pub fn scale_all<S: Scalar>(entries: &mut [S], c: S)
-    requires { S.ring.size c + row_size S.ring entries.old ≤ 2 ^ 62 }
+    requires { S.ring.size c + row_size S.ring entries.old ≤ most_element }
     ensures { entries.new ≡ scaled S.ring c entries.old }
 {
     for x in entries.iter_mut() {
@@ -38,7 +39,7 @@ pub fn scale_all<S: Scalar>(entries: &mut [S], c: S)
 // Adds the multiple of the other entries.
 pub fn join_all<S: Scalar>(entries: &mut [S], others: &[S], c: S)
     requires lengths { length entries.old ≡ length others.now }
-    requires sizes { S.ring.size c + row_size S.ring others.now ≤ 2 ^ 62 }
+    requires sizes { S.ring.size c + row_size S.ring others.now ≤ most_element }
     ensures { entries.new ≡ joined S.ring entries.old (scaled S.ring c others.now) }
 {
     for i in 0..entries.len() {
@@ -48,7 +49,9 @@ pub fn join_all<S: Scalar>(entries: &mut [S], others: &[S], c: S)
 
 // The place of the first entry other than the zero.
 pub fn first_finite<S: Scalar>(entries: &[S]) -> Option<usize>
-    ensures none { MatchOption result ((i : ℕ) → entry S.ring entries.now i ≡ S.ring.zero) (λ i. (i < length entries.now) × (entry S.ring entries.now i ≢ S.ring.zero) × ((k : ℕ) → k < i → entry S.ring entries.now k ≡ S.ring.zero)) }
+    ensures none { MatchOption result ((i : ℕ) → entry S.ring entries.now i ≡ S.ring.zero)
+        (λ i. (i < length entries.now) × (entry S.ring entries.now i ≢ S.ring.zero) ×
+        ((k : ℕ) → k < i → entry S.ring entries.now k ≡ S.ring.zero)) }
 {
     for i in 0..entries.len() {
         if !is_zero(entries[i]) {
@@ -61,7 +64,7 @@ pub fn first_finite<S: Scalar>(entries: &[S]) -> Option<usize>
 // Whether the multiple of the row lies below the other.
 pub fn lies_below<S: Scalar>(row: &[S], c: S, above: &[S]) -> bool
     requires lengths { length row.now ≡ length above.now }
-    requires sizes { S.ring.size c + row_size S.ring row.now ≤ 2 ^ 62 }
+    requires sizes { S.ring.size c + row_size S.ring row.now ≤ most_element }
     ensures { IsTrue result ↔ Below S.ring (scaled S.ring c row.now) above.now }
 {
     for i in 0..above.len() {
@@ -77,8 +80,8 @@ pub fn meets_at<S: Scalar>(row: &[S], target: &[S], t: usize) -> bool
     requires lengths { length row.now ≡ length target.now }
     requires within { t < length target.now }
     requires finite { entry S.ring target.now t ≢ S.ring.zero }
-    requires row_size { row_size S.ring row.now ≤ 2 ^ 60 }
-    requires target_size { row_size S.ring target.now ≤ 2 ^ 60 }
+    requires row_size { row_size S.ring row.now ≤ most_entry }
+    requires target_size { row_size S.ring target.now ≤ most_entry }
     ensures { IsTrue result ↔ Meets S.ring target.now t row.now }
 {
     let entry = row[t];
@@ -91,7 +94,7 @@ pub fn meets_at<S: Scalar>(row: &[S], target: &[S], t: usize) -> bool
 
 // Brings the entries to normal form; false where each is the zero.
 pub fn normalise_all<S: Scalar>(entries: &mut [S]) -> bool
-    requires { row_size S.ring entries.old ≤ 2 ^ 60 }
+    requires { row_size S.ring entries.old ≤ most_entry }
     ensures yes { OnTrue result (Normalises S.ring entries.old entries.new) }
     ensures no { OnFalse result (entries.old ≡ bottom S.ring (length entries.old)) }
     ensures same { OnFalse result (entries.new ≡ entries.old) }

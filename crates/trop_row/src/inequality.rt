@@ -1,4 +1,6 @@
-ghost use Rattle.std.specs.Prelude.{◌≡◌, ◌+◌, ◌^◌, ◌≤◌, ◌↔◌, IsTrue, IfOk, length};
+//! Inequalities between sums of scaled coordinates.
+ghost use Rattle.std.specs.Prelude.{◌≡◌, ◌+◌, ◌≤◌, ◌↔◌, IsTrue, IfOk, length};
+ghost use Rattle.trop_theory.specs.Sizes.{most_element};
 ghost use Rattle.trop_theory.specs.Vectors.{row_size};
 ghost use Rattle.trop_theory.specs.Inequalities.{Inequality, IsTrueAt, inequality_size};
 
@@ -68,7 +70,7 @@ impl<S: Scalar> Ineq<S> {
     /// Whether it is true at the row.
     pub fn holds(&self, row: &Row<S>) -> bool
         requires lengths { length row.now ≡ length self.now.left }
-        requires sizes { row_size S.ring row.now + inequality_size S.ring self.now ≤ 2 ^ 62 }
+        requires sizes { row_size S.ring row.now + inequality_size S.ring self.now ≤ most_element }
         ensures { IsTrue result ↔ IsTrueAt S.ring self.now row.now }
     {
         row.dot(&self.left).le(row.dot(&self.right))

@@ -20,20 +20,30 @@ pub fn comparison_of_rows<S: Scalar>()
 /// The combinations of the list that the elementary step gives are exactly the combinations of the rows at which the
 /// inequality is true (Allamigeon, Gaubert, Goubault, The tropical double description method, 2010).
 pub fn step_generates_guard<S: Scalar>()
-    ensures { (n : ℕ) (p : Inequality S) (rows others : List (List S)) → IsIn n p → AreWide n rows → IsStepList S.ring p rows others → (x : List S) → IsCombination S.ring n others x ↔ InGuard S.ring (IsCombination S.ring n rows) p x }
+    ensures { (n : ℕ) (p : Inequality S) (rows others : List (List S)) → IsIn n p → AreWide n rows →
+        IsStepList S.ring p rows others → (x : List S) → IsCombination S.ring n others x ↔
+        InGuard S.ring (IsCombination S.ring n rows) p x }
 {}
 
 /// Lists of rows with the same combinations have the same canonical list.
 pub fn canonical_list_of_rows_is_unique<S: Scalar>()
-    ensures { (n : ℕ) (rows others first second : List (List S)) → ((x : List S) → IsCombination S.ring n rows x ↔ IsCombination S.ring n others x) → IsCanonical S.ring (IsCombination S.ring n rows) first → IsCanonical S.ring (IsCombination S.ring n others) second → first ≡ second }
+    ensures { (n : ℕ) (rows others first second : List (List S)) →
+        ((x : List S) → IsCombination S.ring n rows x ↔ IsCombination S.ring n others x) →
+        IsCanonical S.ring (IsCombination S.ring n rows) first →
+        IsCanonical S.ring (IsCombination S.ring n others) second → first ≡ second }
 {}
 
 /// Systems with the same solutions have the same canonical list.
 pub fn canonical_list_of_system_is_unique<S: Scalar>()
-    ensures { (n : ℕ) (system other : List (Inequality S)) (first second : List (List S)) → ((x : List S) → Solves S.ring n system x ↔ Solves S.ring n other x) → IsCanonical S.ring (Solves S.ring n system) first → IsCanonical S.ring (Solves S.ring n other) second → first ≡ second }
+    ensures { (n : ℕ) (system other : List (Inequality S)) (first second : List (List S)) →
+        ((x : List S) → Solves S.ring n system x ↔ Solves S.ring n other x) →
+        IsCanonical S.ring (Solves S.ring n system) first → IsCanonical S.ring (Solves S.ring n other) second →
+        first ≡ second }
 {}
 
 /// The canonical list of the combinations of some rows has the same combinations, so it determines the cone.
 pub fn canonical_list_generates<S: Scalar>()
-    ensures { (n : ℕ) (rows others : List (List S)) → AreWide n rows → IsCanonical S.ring (IsCombination S.ring n rows) others → (x : List S) → IsCombination S.ring n rows x ↔ IsCombination S.ring n others x }
+    ensures { (n : ℕ) (rows others : List (List S)) → AreWide n rows →
+        IsCanonical S.ring (IsCombination S.ring n rows) others → (x : List S) → IsCombination S.ring n rows x ↔
+        IsCombination S.ring n others x }
 {}

@@ -6,6 +6,7 @@
 mod entries;
 mod gens;
 mod inequality;
+mod largest;
 pub mod laws;
 mod membership;
 mod reduction;
@@ -15,6 +16,7 @@ mod system;
 
 pub use gens::Gens;
 pub use inequality::Ineq;
+pub use largest::{rows_size, system_size};
 pub use membership::{first_unmet, meets, member, some_meets};
 pub use reduction::reduce;
 pub use row::Row;

@@ -1,4 +1,6 @@
-ghost use Rattle.std.specs.Prelude.{◌≡◌, ◌≢◌, ◌^◌, ◌<◌, ◌≤◌, ◌↔◌, List, IsTrue, IsFalse, IfOk, length, All, Any, AllPairs, remove, slice_index_or};
+//! The canonical list of the cone that rows generate.
+ghost use Rattle.std.specs.Prelude.{◌≡◌, ◌≢◌, ◌<◌, ◌≤◌, ◌↔◌, List, IsTrue, IsFalse, IfOk, length, All, Any, AllPairs, remove, slice_index_or};
+ghost use Rattle.trop_theory.specs.Sizes.{most_entry};
 ghost use Rattle.trop_theory.specs.Vectors.{entry, row_size, rows_size, AreWide};
 ghost use Rattle.trop_theory.specs.Normal.{IsNormal};
 ghost use Rattle.trop_theory.specs.Combinations.{IsCombination, SameCone, AreIndependent};
@@ -21,20 +23,35 @@ fn others_meet<S: Scalar>(rows: &[Row<S>], k: usize, target: &[S], t: usize) -> 
     requires wide { AreWide (length target.now) rows.now }
     requires within { t < length target.now }
     requires finite { entry S.ring target.now t ≢ S.ring.zero }
-    requires row_sizes { rows_size S.ring rows.now ≤ 2 ^ 60 }
-    requires target_size { row_size S.ring target.now ≤ 2 ^ 60 }
+    requires row_sizes { rows_size S.ring rows.now ≤ most_entry }
+    requires target_size { row_size S.ring target.now ≤ most_entry }
     ensures { IsTrue result ↔ Any (Meets S.ring target.now t) (remove rows.now k) }
 {
     some_meets_of(&rows[k + 1..], target, t) || some_meets_of(&rows[..k], target, t)
 }
 
-// Whether the row at k is a combination of the others.
-fn depends<S: Scalar>(rows: &[Row<S>], k: usize, n: u32) -> bool
+// The place of a greatest entry, at which a row is the likeliest to be met by no other.
+fn greatest_at<S: Scalar>(entries: &[S]) -> usize {
+    let (mut place, mut greatest) = (0, S::zero());
+    for i in 0..entries.len() {
+        let next = entries[i];
+        if !next.le(greatest) {
+            place = i;
+            greatest = next;
+        }
+    }
+    place
+}
+
+// Whether the row at k is a combination of the others: at each coordinate some other meets it.
+fn each_is_met<S: Scalar>(rows: &[Row<S>], k: usize, n: u32) -> bool
     requires within { k < length rows.now }
     requires wide { AreWide n rows.now }
-    requires sizes { rows_size S.ring rows.now ≤ 2 ^ 60 }
-    ensures yes { IsTrue result → (d : List S) → IsCombination S.ring n (remove rows.now k) (slice_index_or rows.now k d) }
-    ensures no { IsFalse result → (d : List S) → IsCombination S.ring n (remove rows.now k) (slice_index_or rows.now k d) → ⊥ }
+    requires sizes { rows_size S.ring rows.now ≤ most_entry }
+    ensures yes { IsTrue result → (d : List S) → IsCombination S.ring n (remove rows.now k)
+        (slice_index_or rows.now k d) }
+    ensures no { IsFalse result → (d : List S) → IsCombination S.ring n (remove rows.now k)
+        (slice_index_or rows.now k d) → ⊥ }
 {
     let row = &rows[k];
     let target = row.as_slice();
@@ -46,10 +63,29 @@ fn depends<S: Scalar>(rows: &[Row<S>], k: usize, n: u32) -> bool
     true
 }
 
+// The same, with a look at one coordinate first.
+fn depends<S: Scalar>(rows: &[Row<S>], k: usize, n: u32) -> bool
+    requires within { k < length rows.now }
+    requires wide { AreWide n rows.now }
+    requires sizes { rows_size S.ring rows.now ≤ most_entry }
+    ensures yes { IsTrue result → (d : List S) → IsCombination S.ring n (remove rows.now k)
+        (slice_index_or rows.now k d) }
+    ensures no { IsFalse result → (d : List S) → IsCombination S.ring n (remove rows.now k)
+        (slice_index_or rows.now k d) → ⊥ }
+{
+    let row = &rows[k];
+    let target = row.as_slice();
+    let t = greatest_at(target);
+    if t < target.len() && !is_zero(target[t]) && !others_meet(rows, k, target, t) {
+        return false;
+    }
+    each_is_met(rows, k, n)
+}
+
 // Takes out, one after another from the last on, the rows that the others give. So only rows that stay move up.
 fn drop_combinations<S: Scalar>(rows: &mut Vec<Row<S>>, n: u32)
     requires wide { AreWide n rows.old.items }
-    requires sizes { rows_size S.ring rows.old.items ≤ 2 ^ 60 }
+    requires sizes { rows_size S.ring rows.old.items ≤ most_entry }
     requires normal { All (IsNormal S.ring) rows.old.items }
     requires ascending { AllPairs (RowBelow S.ring) rows.old.items }
     ensures wide { AreWide n rows.new.items }
@@ -58,7 +94,7 @@ fn drop_combinations<S: Scalar>(rows: &mut Vec<Row<S>>, n: u32)
     ensures independent { AreIndependent S.ring n rows.new.items (length rows.new.items) }
     ensures same { (x : List S) → IsCombination S.ring n rows.old.items x ↔ IsCombination S.ring n rows.new.items x }
     ensures fewer { length rows.new.items ≤ length rows.old.items }
-    ensures sizes { rows_size S.ring rows.new.items ≤ 2 ^ 60 }
+    ensures sizes { rows_size S.ring rows.new.items ≤ most_entry }
 {
     let mut k = rows.len();
     while k > 0 {
@@ -75,7 +111,7 @@ fn normal_rows<S: Scalar>(alloc: Global, rows: &[Row<S>], n: u32) -> Result<Vec<
     requires sizes { AreReducible S.ring rows.now }
     ensures wide { IfOk result (λ out. AreWide n out.items) }
     ensures normal { IfOk result (λ out. All (IsNormal S.ring) out.items) }
-    ensures sizes { IfOk result (λ out. rows_size S.ring out.items ≤ 2 ^ 60) }
+    ensures sizes { IfOk result (λ out. rows_size S.ring out.items ≤ most_entry) }
     ensures fewer { IfOk result (λ out. length out.items ≤ length rows.now) }
     ensures same { IfOk result (λ out. SameCone S.ring n rows.now out.items) }
 {
@@ -92,10 +128,10 @@ fn normal_rows<S: Scalar>(alloc: Global, rows: &[Row<S>], n: u32) -> Result<Vec<
 // Sorts the rows and leaves out repeats.
 fn sort_rows<S: Scalar>(rows: &mut Vec<Row<S>>, n: u32) -> Result<(), NoMemory>
     requires wide { AreWide n rows.old.items }
-    requires sizes { rows_size S.ring rows.old.items ≤ 2 ^ 60 }
+    requires sizes { rows_size S.ring rows.old.items ≤ most_entry }
     requires normal { All (IsNormal S.ring) rows.old.items }
     ensures wide { IfOk result (λ _. AreWide n rows.new.items) }
-    ensures sizes { IfOk result (λ _. rows_size S.ring rows.new.items ≤ 2 ^ 60) }
+    ensures sizes { IfOk result (λ _. rows_size S.ring rows.new.items ≤ most_entry) }
     ensures normal { IfOk result (λ _. All (IsNormal S.ring) rows.new.items) }
     ensures ascending { IfOk result (λ _. AllPairs (RowBelow S.ring) rows.new.items) }
     ensures fewer { IfOk result (λ _. length rows.new.items ≤ length rows.old.items) }
@@ -111,11 +147,13 @@ fn sort_rows<S: Scalar>(rows: &mut Vec<Row<S>>, n: u32) -> Result<(), NoMemory>
 pub fn reduce<S: Scalar>(alloc: Global, gens: &Gens<S>) -> Result<Gens<S>, NoMemory>
     requires sizes { AreReducible S.ring gens.now.rows }
     ensures width { IfOk result (λ out. out.n ≡ gens.now.n) }
-    ensures canonical { IfOk result (λ out. IsCanonical S.ring (IsCombination S.ring gens.now.n gens.now.rows) out.rows) }
-    ensures same { IfOk result (λ out. (x : List S) → IsCombination S.ring gens.now.n gens.now.rows x ↔ IsCombination S.ring gens.now.n out.rows x) }
+    ensures canonical { IfOk result (λ out. IsCanonical S.ring (IsCombination S.ring gens.now.n gens.now.rows)
+        out.rows) }
+    ensures same { IfOk result (λ out. (x : List S) → IsCombination S.ring gens.now.n gens.now.rows x ↔
+        IsCombination S.ring gens.now.n out.rows x) }
     ensures independent { IfOk result (λ out. AreIndependent S.ring gens.now.n out.rows (length out.rows)) }
     ensures fewer { IfOk result (λ out. length out.rows ≤ length gens.now.rows) }
-    ensures sizes { IfOk result (λ out. rows_size S.ring out.rows ≤ 2 ^ 60) }
+    ensures sizes { IfOk result (λ out. rows_size S.ring out.rows ≤ most_entry) }
 {
     let n = gens.n();
     let mut rows = normal_rows(alloc, gens.as_slice(), n)?;

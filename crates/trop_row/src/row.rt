@@ -1,8 +1,10 @@
-ghost use Rattle.std.specs.Prelude.{◌≡◌, ◌+◌, ◌^◌, ◌<◌, ◌≤◌, ℕ, length, slice_set, IsOk, IfOk, refl};
+//! Rows.
+ghost use Rattle.std.specs.Prelude.{◌≡◌, ◌+◌, ◌<◌, ◌≤◌, ℕ, length, slice_set, IsOk, IfOk, refl};
 ghost use Rattle.std.specs.Bool.{OnTrue, OnFalse};
 ghost use Rattle.std.specs.Cmp.{partial_equiv_from_equiv, partial_order_from_total};
 ghost use Rattle.std.specs.Ordering.{eq_by_cmp, as_partial_cmp};
 ghost use Rattle.std.proofs.lemmas.Cmp.{eq_by_cmp_equiv};
+ghost use Rattle.trop_theory.specs.Sizes.{most_element, most_entry};
 ghost use Rattle.trop_theory.specs.Vectors.{entry, scaled, joined, dot, row_size, bottom};
 ghost use Rattle.trop_theory.specs.Normal.{Normalises};
 ghost use Rattle.trop_theory.specs.Compare.{compare_rows};
@@ -115,7 +117,7 @@ impl<S: Scalar> Row<S> {
     /// The sum of the products of coefficients and entries.
     pub fn dot(&self, coeffs: &Row<S>) -> S
         requires lengths { length self.now ≡ length coeffs.now }
-        requires sizes { row_size S.ring self.now + row_size S.ring coeffs.now ≤ 2 ^ 62 }
+        requires sizes { row_size S.ring self.now + row_size S.ring coeffs.now ≤ most_element }
         ensures { result ≡ dot S.ring coeffs.now self.now }
     {
         S::sum_of_products(coeffs.as_slice(), self.as_slice())
@@ -123,7 +125,7 @@ impl<S: Scalar> Row<S> {
 
     /// Multiplies each entry by `c`.
     pub fn scale(&mut self, c: S)
-        requires { S.ring.size c + row_size S.ring self.old ≤ 2 ^ 62 }
+        requires { S.ring.size c + row_size S.ring self.old ≤ most_element }
         ensures { self.new ≡ scaled S.ring c self.old }
     {
         scale_all(self.entries.as_mut_slice(), c);
@@ -132,7 +134,7 @@ impl<S: Scalar> Row<S> {
     /// Adds `c` times the other row.
     pub fn join_into(&mut self, other: &Row<S>, c: S)
         requires lengths { length self.old ≡ length other.now }
-        requires sizes { S.ring.size c + row_size S.ring other.now ≤ 2 ^ 62 }
+        requires sizes { S.ring.size c + row_size S.ring other.now ≤ most_element }
         ensures { self.new ≡ joined S.ring self.old (scaled S.ring c other.now) }
     {
         join_all(self.entries.as_mut_slice(), other.as_slice(), c);
@@ -141,7 +143,7 @@ impl<S: Scalar> Row<S> {
     /// Scales to normal form, where the first finite entry is the one. It answers false where every entry is the
     /// zero, and changes nothing then.
     pub fn normalise(&mut self) -> bool
-        requires { row_size S.ring self.old ≤ 2 ^ 60 }
+        requires { row_size S.ring self.old ≤ most_entry }
         ensures yes { OnTrue result (Normalises S.ring self.old self.new) }
         ensures no { OnFalse result (self.old ≡ bottom S.ring (length self.old)) }
         ensures same { OnFalse result (self.new ≡ self.old) }

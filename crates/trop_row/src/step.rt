@@ -1,5 +1,7 @@
+//! The elementary step: one more inequality on the cone that rows generate.
 ghost use Rattle.std.specs.Prelude.{◌≡◌, ◌≢◌, ◌^◌, ◌≤◌, ◌↔◌, List, IfOk, All, length};
 ghost use Rattle.std.specs.List.{AllZip};
+ghost use Rattle.trop_theory.specs.Sizes.{most_coefficient, most_entry, most_mixed};
 ghost use Rattle.trop_theory.specs.Vectors.{row_size, rows_size, bottom, AreWide};
 ghost use Rattle.trop_theory.specs.Normal.{Normalises};
 ghost use Rattle.trop_theory.specs.Inequalities.{IsTrueAt, InGuard, IsIn, inequality_size};
@@ -53,8 +55,8 @@ fn dropped_rows<S: Scalar>(
     Ok(out)
 }
 
-/// The mixed row of a kept and a dropped row, in normal form: the left sum of the dropped row times the kept row, plus the
-/// right sum of the kept row times the dropped row. The inequality is true at the kept row and false at the other.
+/// The mixed row of a kept and a dropped row, in normal form: the left sum of the dropped row times the kept row, plus
+/// the right sum of the kept row times the dropped row. The inequality is true at the kept row and false at the other.
 pub fn mixed_row<S: Scalar>(
     alloc: Global,
     kept: &Row<S>,
@@ -62,7 +64,8 @@ pub fn mixed_row<S: Scalar>(
     ineq: &Ineq<S>,
 ) -> Result<Row<S>, NoMemory>
     requires { CanMix S.ring ineq.now kept.now dropped.now }
-    ensures { IfOk result (λ row. Normalises S.ring (mixed S.ring ineq.now.left ineq.now.right kept.now dropped.now) row) }
+    ensures { IfOk result (λ row. Normalises S.ring
+        (mixed S.ring ineq.now.left ineq.now.right kept.now dropped.now) row) }
 {
     let mut row = kept.copy(alloc)?;
     row.scale(dropped.dot(ineq.left()));
@@ -79,7 +82,8 @@ fn mixed_rows<S: Scalar>(
     ineq: &Ineq<S>,
 ) -> Result<Vec<Row<S>>, NoMemory>
     requires { All (CanMix S.ring ineq.now kept.now) dropped.now }
-    ensures { IfOk result (λ out. AllZip (λ w x. Normalises S.ring (mixed S.ring ineq.now.left ineq.now.right kept.now w) x) dropped.now out.items) }
+    ensures { IfOk result (λ out. AllZip (λ w x. Normalises S.ring
+        (mixed S.ring ineq.now.left ineq.now.right kept.now w) x) dropped.now out.items) }
 {
     let mut out = Vec::new(alloc);
     for row in dropped {
@@ -137,13 +141,14 @@ pub fn step_all<S: Scalar>(
 ) -> Result<Gens<S>, NoMemory>
     requires wide { IsIn gens.now.n ineq.now }
     requires few { length gens.now.rows ≤ 2 ^ 15 }
-    requires row_sizes { rows_size S.ring gens.now.rows ≤ 2 ^ 57 }
-    requires size { inequality_size S.ring ineq.now ≤ 2 ^ 49 }
+    requires row_sizes { rows_size S.ring gens.now.rows ≤ most_mixed }
+    requires size { inequality_size S.ring ineq.now ≤ most_coefficient }
     requires finite { All (λ row. row ≢ bottom S.ring gens.now.n) gens.now.rows }
     ensures width { IfOk result (λ out. out.n ≡ gens.now.n) }
     ensures list { IfOk result (λ out. IsStepList S.ring ineq.now gens.now.rows out.rows) }
-    ensures guard { IfOk result (λ out. (x : List S) → IsCombination S.ring gens.now.n out.rows x ↔ InGuard S.ring (IsCombination S.ring gens.now.n gens.now.rows) ineq.now x) }
-    ensures sizes { IfOk result (λ out. rows_size S.ring out.rows ≤ 2 ^ 60) }
+    ensures guard { IfOk result (λ out. (x : List S) → IsCombination S.ring gens.now.n out.rows x ↔
+        InGuard S.ring (IsCombination S.ring gens.now.n gens.now.rows) ineq.now x) }
+    ensures sizes { IfOk result (λ out. rows_size S.ring out.rows ≤ most_entry) }
 {
     let rows = gens.as_slice();
     let mut out = kept_rows(alloc, rows, ineq)?;

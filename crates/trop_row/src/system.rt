@@ -1,3 +1,4 @@
+//! Systems of inequalities.
 ghost use Rattle.std.specs.Prelude.{◌≡◌, ◌+◌, ◌^◌, ◌<◌, ◌≤◌, ◌↔◌, [], ◌∷◌, ◌++◌, OnOk, OnErr, IsOk, IsSome, All, length, slice_get, Some};
 ghost use Rattle.std.specs.Option.{option_to_list};
 ghost use Rattle.trop_theory.specs.Inequalities.{IsIn};
@@ -24,9 +25,15 @@ impl<S: Scalar> Model for System<S> {
 
     ghost Value = { InequalityList S };
 
-    ghost view = { λ a. record { n = a.n; inequalities = a.inequalities.items; spare = vec_capacity a.inequalities - vec_len a.inequalities } };
+    ghost view = { λ a. record {
+      n = a.n;
+      inequalities = a.inequalities.items;
+      spare =
+          vec_capacity a.inequalities - vec_len a.inequalities;
+    } };
 
-    ghost invariant = { λ a. (1 ≤ a.n) × (a.n ≤ 64) × (length a.inequalities.items ≤ 2 ^ 31) × All (IsIn a.n) a.inequalities.items };
+    ghost invariant = { λ a. (1 ≤ a.n) × (a.n ≤ 64) × (length a.inequalities.items ≤ 2 ^ 31) ×
+        All (IsIn a.n) a.inequalities.items };
 }
 
 impl<S: Scalar> System<S> {

@@ -1,8 +1,7 @@
 use Rattle.std.proofs.Common.{◌≡◌, arith, ap, sym, ◌∙◌, length, subst, true≢false}
 use Rattle.std.specs.Prelude.{All, IsTrue, ◌↔◌}
-use Rattle.trop_theory.specs.Vectors.{row_size}
 use Rattle.trop_theory.specs.Inequalities.{IsTrueAt}
-use Rattle.trop_row.proofs.Steps.{rows_size-at}
+use Rattle.trop_row.proofs.Sizes.{rows_size-read}
 use Rattle.prog_tree.specs.Claims.{claim_of}
 use Rattle.cone_reports.specs.Readings.{claim_inequalities}
 use Rattle.cone_claims.proofs.Loops.{each_more, not_each}
@@ -13,9 +12,7 @@ is_true_at-requires-clause-size g c =
     let R = g.S.Scalar.ring in
     omega (
       arith,
-      ap (row_size R) c.row-item.is,
-      rows_size-at R c.args.rows.now c.loop-row.row-index c.row-item.result
-          (omega arith),
+      rows_size-read R c.args.rows.now c.loop-row.row-index c.row-item.result c.row-item.is (omega arith),
       c.requires.size,
     )
 

@@ -1,6 +1,5 @@
-use Rattle.std.proofs.Common.{arith, ap, sym, ◌∙◌, true≢false}
-use Rattle.trop_theory.specs.Vectors.{row_size}
-use Rattle.trop_row.proofs.Steps.{rows_size-at}
+use Rattle.std.proofs.Common.{arith, sym, ◌∙◌, true≢false}
+use Rattle.trop_row.proofs.Sizes.{rows_size-read}
 use Rattle.cone_claims.specs.Points.{Shows}
 use Rattle.cone_claims.proofs.Loops.{each_more, none_found}
 use Rattle.cone_claims.proofs.points.some_shows.Goals as goal
@@ -10,9 +9,7 @@ shows-requires-clause-sizes g c =
     let R = g.S.Scalar.ring in
     omega (
       arith,
-      ap (row_size R) c.row-item.is,
-      rows_size-at R c.args.rows.now c.loop-row.row-index c.row-item.result
-          (omega arith),
+      rows_size-read R c.args.rows.now c.loop-row.row-index c.row-item.result c.row-item.is (omega arith),
       c.requires.sizes,
     )
 

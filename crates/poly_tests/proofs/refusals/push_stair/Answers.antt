@@ -1,7 +1,7 @@
 use Rattle.std.proofs.Common.{ap, arith}
 use Rattle.trop_theory.specs.Vectors.{rows_size}
 use Rattle.trop_scalar.specs.MaxPlus.{max_ring}
-use Rattle.trop_poly.proofs.Kept.{rows_size-last}
+use Rattle.trop_row.proofs.Sizes.{rows_size-last}
 use Rattle.poly_tests.proofs.refusals.push_stair.Goals as goal
 
 pub returns-clause-size : goal.returns-clause-size

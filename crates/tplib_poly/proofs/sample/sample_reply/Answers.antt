@@ -1,4 +1,4 @@
-use Rattle.std.proofs.Common.{◌≡◌, ◌≤◌, ◌∙◌, length, sym, ap, subst, arith}
+use Rattle.std.proofs.Common.{◌≡◌, ◌≤◌, ◌∙◌, length, ap, arith}
 use Rattle.std.specs.Prelude.{max}
 use Rattle.trop_theory.specs.Vectors.{rows_size}
 use Rattle.trop_theory.specs.Inequalities.{system_size}
@@ -35,8 +35,8 @@ pub returns-clause-reply : goal.returns-clause-reply
 returns-clause-reply c =
     let cone = c.in-Ok.cone in
     let bounds = c.in-Ok-external.bounds in
-    let largest = c.greater-largest.ensures ∙ ap (λ a. max a c.coefficient_size.result) c.size.ensures
-    ∙ ap (max (rows_size max_ring cone.rows)) (c.coefficient_size.ensures
+    let largest = c.greater-largest.ensures ∙ ap (λ a. max a c.system_size.result) c.size.ensures
+    ∙ ap (max (rows_size max_ring cone.rows)) (c.system_size.ensures
     ∙ ap (system_size max_ring) c.as_slice.ensures.inequalities) in
     let generators = c.len.ensures.len ∙ ap length c.rows.ensures.rows in
     sampled c.args.seed c.args.vars c.args.rows c.in_ok-system.system.inequalities c.in_ok-system.ensures.inequalities

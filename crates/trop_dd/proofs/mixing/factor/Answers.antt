@@ -9,7 +9,7 @@ times-first-requires g c =
     let within = node_within g.met.S.Scalar.ring_laws c.args.system.now.n c.args.system.now.inequalities c.args.ineq.now
     c.args.v.now c.args.w.now c.args.left c.args.right c.args.slot c.requires.fit c.union.result
     (union_nodes c.args.v.now.words.support c.args.w.now.words.support c.support.result c.support-2.result
-    c.union.result c.support.ensures c.support-2.ensures c.union.ensures.members) c.in-Some.i c.in-Some.ensures.1 in
+    c.union.result c.support.ensures c.support-2.ensures c.union.ensures) c.in-Some.i c.in-Some.ensures.1 in
     omega (
       arith,
       left_size g.met.S.Scalar.ring_laws c.args.system.now.n c.args.system.now.inequalities c.args.ineq.now
@@ -24,7 +24,7 @@ get-requires-in-Some g c =
     let within = node_within g.met.S.Scalar.ring_laws c.args.system.now.n c.args.system.now.inequalities c.args.ineq.now
     c.args.v.now c.args.w.now c.args.left c.args.right c.args.slot c.requires.fit c.union.result
     (union_nodes c.args.v.now.words.support c.args.w.now.words.support c.support.result c.support-2.result
-    c.union.result c.support.ensures c.support-2.ensures c.union.ensures.members) c.in-Some.i c.in-Some.ensures.1 in
+    c.union.result c.support.ensures c.support-2.ensures c.union.ensures) c.in-Some.i c.in-Some.ensures.1 in
     omega (
       arith,
       within,
@@ -38,7 +38,7 @@ times-second-requires g c =
     let within = node_within g.met.S.Scalar.ring_laws c.args.system.now.n c.args.system.now.inequalities c.args.ineq.now
     c.args.v.now c.args.w.now c.args.left c.args.right c.args.slot c.requires.fit c.union.result
     (union_nodes c.args.v.now.words.support c.args.w.now.words.support c.support.result c.support-2.result
-    c.union.result c.support.ensures c.support-2.ensures c.union.ensures.members) c.in-Some.i c.in-Some.ensures.1 in
+    c.union.result c.support.ensures c.support-2.ensures c.union.ensures) c.in-Some.i c.in-Some.ensures.1 in
     omega (
       arith,
       right_size g.met.S.Scalar.ring_laws c.args.system.now.n c.args.system.now.inequalities c.args.ineq.now
@@ -59,7 +59,7 @@ pub inverse-requires : goal.inverse-requires
 inverse-requires g c = λ z. sum_at g.met.S.Scalar.ring_laws c.args.system.now.n c.args.system.now.inequalities
     c.args.ineq.now c.args.v.now c.args.w.now c.args.left c.args.right c.args.slot c.requires.fit c.union.result
     (union_nodes c.args.v.now.words.support c.args.w.now.words.support c.support.result c.support-2.result
-    c.union.result c.support.ensures c.support-2.ensures c.union.ensures.members) c.in-Some.i c.in-Some.ensures.1
+    c.union.result c.support.ensures c.support-2.ensures c.union.ensures) c.in-Some.i c.in-Some.ensures.1
     (sym (c.plus.ensures ∙ ap₂ g.S.Scalar.ring.plus
     (c.times-first.ensures ∙ ap (g.S.Scalar.ring.times c.args.left)
     (c.get.ensures ∙ ap (λ x. entry g.S.Scalar.ring x c.in-Some.i) c.row.ensures))
@@ -70,13 +70,13 @@ pub returns-in-None : goal.returns-in-None
 returns-in-None g c = absurd (some_node g.met.S.Scalar.ring_laws c.args.system.now.n c.args.system.now.inequalities
     c.args.ineq.now c.args.v.now c.args.w.now c.args.left c.args.right c.args.slot c.requires.fit c.union.result
     (union_nodes c.args.v.now.words.support c.args.w.now.words.support c.support.result c.support-2.result
-    c.union.result c.support.ensures c.support-2.ensures c.union.ensures.members) c.in-None.ensures)
+    c.union.result c.support.ensures c.support-2.ensures c.union.ensures) c.in-None.ensures)
 
 pub returns-in-Some : goal.returns-in-Some
 returns-in-Some g c = is_factor g.met.S.Scalar.ring_laws c.args.system.now.n c.args.system.now.inequalities
     c.args.ineq.now c.args.v.now c.args.w.now c.args.left c.args.right c.args.slot c.requires.fit c.union.result
     (union_nodes c.args.v.now.words.support c.args.w.now.words.support c.support.result c.support-2.result
-    c.union.result c.support.ensures c.support-2.ensures c.union.ensures.members) c.in-Some.i c.in-Some.ensures.1
+    c.union.result c.support.ensures c.support-2.ensures c.union.ensures) c.in-Some.i c.in-Some.ensures.1
     c.in-Some.ensures.2 c.inverse.result (c.inverse.ensures ∙ ap g.S.Scalar.ring.inverse
     (c.plus.ensures ∙ ap₂ g.S.Scalar.ring.plus (c.times-first.ensures ∙ ap (g.S.Scalar.ring.times c.args.left)
     (c.get.ensures ∙ ap (λ x. entry g.S.Scalar.ring x c.in-Some.i) c.row.ensures))

@@ -3,7 +3,7 @@ use Rattle.std.proofs.lemmas.List.{length-append}
 use Rattle.trop_pruning.specs.Judged.{IsJudged}
 use Rattle.trop_dd.specs.Carried.{found_rows}
 use Rattle.trop_dd.proofs.Numbers.{length-found}
-use Rattle.trop_dd.proofs.Mixes.{fit, left_size, right_size, first_slots, second_slots, fits, none_given, some_given, kept_sizes}
+use Rattle.trop_dd.proofs.Mixes.{fit, left_fits, right_fits, none_given, faded_given, some_given, kept_sizes}
 use Rattle.trop_dd.proofs.Narrowings.{grows_none, grows_one, over_limit}
 use Rattle.trop_dd.proofs.mixing.judge_pair.Goals as goal
 
@@ -13,62 +13,50 @@ new_slot-slot-requires g c = kept_sizes g.met.S.Scalar.ring_laws c.args.system.n
     c.requires.dropped c.index-sides-kept.result c.index-sides-dropped.result c.index-sides-kept.is
     c.index-sides-dropped.is
 
+pub fades-requires : goal.fades-requires
+fades-requires g c =
+    let h = fit g.met.S.Scalar.ring_laws c.args.system.now.n c.args.system.now.inequalities c.args.ineq.now
+    c.args.sides.now c.requires.next c.args.kept.now c.args.dropped.now c.requires.kept c.requires.dropped
+    c.index-sides-kept.result c.index-sides-dropped.result c.index-sides-kept.is c.index-sides-dropped.is
+    c.sum-right.result c.sum-right.ensures c.new_slot-slot.result c.new_slot-slot.ensures.sum
+    c.new_slot-slot.ensures.tail c.new_slot-slot.ensures.head in
+    record {
+      pair = h.pair;
+      left_size = left_fits g.met.S.Scalar.ring_laws c.args.system.now.n c.args.system.now.inequalities c.args.ineq.now
+          c.index-sides-kept.result c.index-sides-dropped.result c.args.dropped.now.sum c.sum-right.result
+          c.new_slot-slot.result h;
+      right_size = right_fits g.met.S.Scalar.ring_laws c.args.system.now.n c.args.system.now.inequalities
+          c.args.ineq.now c.index-sides-kept.result c.index-sides-dropped.result c.args.dropped.now.sum
+          c.sum-right.result c.new_slot-slot.result h;
+    }
+
+pub returns-then-fades-clause-grows : goal.returns-then-fades-clause-grows
+returns-then-fades-clause-grows g c = grows_none (found_rows c.args.sides.now c.args.found.now.fresh.items
+    c.args.found.now.order.items) c.args.looks.now c.args.looks.now (omega arith)
+
+pub returns-then-fades-clause-given : goal.returns-then-fades-clause-given
+returns-then-fades-clause-given g c = faded_given g.met.S.Scalar.ring_laws c.args.system.now.n
+    c.args.system.now.inequalities c.args.ineq.now c.args.sides.now c.requires.next c.args.kept.now c.args.dropped.now
+    c.requires.kept c.requires.dropped c.index-sides-kept.result c.index-sides-dropped.result c.index-sides-kept.is
+    c.index-sides-dropped.is (found_rows c.args.sides.now c.args.found.now.fresh.items c.args.found.now.order.items)
+    (c.fades.ensures c.if-fades.true)
+
 pub judge-requires : goal.judge-requires
-judge-requires g c = record {
-  pair = (fit g.met.S.Scalar.ring_laws c.args.system.now.n c.args.system.now.inequalities c.args.ineq.now
-      c.args.sides.now c.requires.next c.args.kept.now c.args.dropped.now c.requires.kept c.requires.dropped
-      c.index-sides-kept.result c.index-sides-dropped.result c.index-sides-kept.is c.index-sides-dropped.is
-      c.sum-right.result c.sum-right.ensures c.new_slot-slot.result c.new_slot-slot.ensures.sum
-      c.new_slot-slot.ensures.tail c.new_slot-slot.ensures.head).pair;
-  left_size = fits g.met.S.Scalar.ring_laws c.args.system.now.n c.args.system.now.inequalities c.args.ineq.now
-      c.index-sides-kept.result c.index-sides-dropped.result c.args.dropped.now.sum c.sum-right.result
-      c.new_slot-slot.result (fit g.met.S.Scalar.ring_laws c.args.system.now.n c.args.system.now.inequalities
-      c.args.ineq.now c.args.sides.now c.requires.next c.args.kept.now c.args.dropped.now c.requires.kept
-      c.requires.dropped c.index-sides-kept.result c.index-sides-dropped.result c.index-sides-kept.is
-      c.index-sides-dropped.is c.sum-right.result c.sum-right.ensures c.new_slot-slot.result c.new_slot-slot.ensures.sum
-      c.new_slot-slot.ensures.tail c.new_slot-slot.ensures.head) c.args.dropped.now.sum
-      (omega (
-        arith,
-        left_size g.met.S.Scalar.ring_laws c.args.system.now.n c.args.system.now.inequalities
-            c.args.ineq.now c.index-sides-kept.result c.index-sides-dropped.result c.args.dropped.now.sum c.sum-right.result
-            c.new_slot-slot.result (fit g.met.S.Scalar.ring_laws c.args.system.now.n c.args.system.now.inequalities
-            c.args.ineq.now c.args.sides.now c.requires.next c.args.kept.now c.args.dropped.now c.requires.kept
-            c.requires.dropped c.index-sides-kept.result c.index-sides-dropped.result c.index-sides-kept.is
-            c.index-sides-dropped.is c.sum-right.result c.sum-right.ensures c.new_slot-slot.result c.new_slot-slot.ensures.sum
-            c.new_slot-slot.ensures.tail c.new_slot-slot.ensures.head),
-      )) c.index-sides-kept.result.slots
-      (first_slots g.met.S.Scalar.ring_laws c.args.system.now.n c.args.system.now.inequalities c.args.ineq.now
-      c.index-sides-kept.result c.index-sides-dropped.result c.args.dropped.now.sum c.sum-right.result
-      c.new_slot-slot.result (fit g.met.S.Scalar.ring_laws c.args.system.now.n c.args.system.now.inequalities
-      c.args.ineq.now c.args.sides.now c.requires.next c.args.kept.now c.args.dropped.now c.requires.kept
-      c.requires.dropped c.index-sides-kept.result c.index-sides-dropped.result c.index-sides-kept.is
-      c.index-sides-dropped.is c.sum-right.result c.sum-right.ensures c.new_slot-slot.result c.new_slot-slot.ensures.sum
-      c.new_slot-slot.ensures.tail c.new_slot-slot.ensures.head));
-  right_size = fits g.met.S.Scalar.ring_laws c.args.system.now.n c.args.system.now.inequalities c.args.ineq.now
-      c.index-sides-kept.result c.index-sides-dropped.result c.args.dropped.now.sum c.sum-right.result
-      c.new_slot-slot.result (fit g.met.S.Scalar.ring_laws c.args.system.now.n c.args.system.now.inequalities
-      c.args.ineq.now c.args.sides.now c.requires.next c.args.kept.now c.args.dropped.now c.requires.kept
-      c.requires.dropped c.index-sides-kept.result c.index-sides-dropped.result c.index-sides-kept.is
-      c.index-sides-dropped.is c.sum-right.result c.sum-right.ensures c.new_slot-slot.result c.new_slot-slot.ensures.sum
-      c.new_slot-slot.ensures.tail c.new_slot-slot.ensures.head) c.sum-right.result
-      (omega (
-        arith,
-        right_size g.met.S.Scalar.ring_laws c.args.system.now.n c.args.system.now.inequalities
-            c.args.ineq.now c.index-sides-kept.result c.index-sides-dropped.result c.args.dropped.now.sum c.sum-right.result
-            c.new_slot-slot.result (fit g.met.S.Scalar.ring_laws c.args.system.now.n c.args.system.now.inequalities
-            c.args.ineq.now c.args.sides.now c.requires.next c.args.kept.now c.args.dropped.now c.requires.kept
-            c.requires.dropped c.index-sides-kept.result c.index-sides-dropped.result c.index-sides-kept.is
-            c.index-sides-dropped.is c.sum-right.result c.sum-right.ensures c.new_slot-slot.result c.new_slot-slot.ensures.sum
-            c.new_slot-slot.ensures.tail c.new_slot-slot.ensures.head),
-      )) c.index-sides-dropped.result.slots
-      (second_slots g.met.S.Scalar.ring_laws c.args.system.now.n c.args.system.now.inequalities c.args.ineq.now
-      c.index-sides-kept.result c.index-sides-dropped.result c.args.dropped.now.sum c.sum-right.result
-      c.new_slot-slot.result (fit g.met.S.Scalar.ring_laws c.args.system.now.n c.args.system.now.inequalities
-      c.args.ineq.now c.args.sides.now c.requires.next c.args.kept.now c.args.dropped.now c.requires.kept
-      c.requires.dropped c.index-sides-kept.result c.index-sides-dropped.result c.index-sides-kept.is
-      c.index-sides-dropped.is c.sum-right.result c.sum-right.ensures c.new_slot-slot.result c.new_slot-slot.ensures.sum
-      c.new_slot-slot.ensures.tail c.new_slot-slot.ensures.head));
-}
+judge-requires g c =
+    let h = fit g.met.S.Scalar.ring_laws c.args.system.now.n c.args.system.now.inequalities c.args.ineq.now
+    c.args.sides.now c.requires.next c.args.kept.now c.args.dropped.now c.requires.kept c.requires.dropped
+    c.index-sides-kept.result c.index-sides-dropped.result c.index-sides-kept.is c.index-sides-dropped.is
+    c.sum-right.result c.sum-right.ensures c.new_slot-slot.result c.new_slot-slot.ensures.sum
+    c.new_slot-slot.ensures.tail c.new_slot-slot.ensures.head in
+    record {
+      pair = h.pair;
+      left_size = left_fits g.met.S.Scalar.ring_laws c.args.system.now.n c.args.system.now.inequalities c.args.ineq.now
+          c.index-sides-kept.result c.index-sides-dropped.result c.args.dropped.now.sum c.sum-right.result
+          c.new_slot-slot.result h;
+      right_size = right_fits g.met.S.Scalar.ring_laws c.args.system.now.n c.args.system.now.inequalities
+          c.args.ineq.now c.index-sides-kept.result c.index-sides-dropped.result c.args.dropped.now.sum
+          c.sum-right.result c.new_slot-slot.result h;
+    }
 
 pub admit-requires : goal.admit-requires
 admit-requires g c = record {

@@ -21,4 +21,4 @@ returns-then-is_empty-clause-given g c =
     (c.index-sides-kept.is ∙ get_or_default c.args.sides.now c.args.kept.now.place c.index-sides-kept.result d
     c.requires.kept.within))
     (λ j typed reaches. c.is_empty.ensures.none.0 c.if-is_empty.true j
-    ((c.intersection.ensures.members j).1 (typed, subst (λ t. Has t j) (sym c.tail.ensures) reaches)))
+    ((c.intersection.ensures j).1 (typed, subst (λ t. Has t j) (sym c.tail.ensures) reaches)))

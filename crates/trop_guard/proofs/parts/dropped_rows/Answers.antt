@@ -1,9 +1,8 @@
-use Rattle.std.proofs.Common.{arith, ap, subst, sym, ◌∙◌, true≢false}
+use Rattle.std.proofs.Common.{arith, subst, sym, ◌∙◌, true≢false}
 use Rattle.std.proofs.lemmas.List.{take_all}
 use Rattle.trop_theory.specs.StepList.{AreChosen}
-use Rattle.trop_theory.specs.Vectors.{row_size}
 use Rattle.trop_theory.specs.Inequalities.{IsTrueAt}
-use Rattle.trop_row.proofs.Steps.{rows_size-at}
+use Rattle.trop_row.proofs.Sizes.{rows_size-read}
 use Rattle.trop_row.proofs.StepMoves.{chosen_read, skipped_read}
 use Rattle.trop_guard.proofs.parts.dropped_rows.Goals as goal
 use Rattle.trop_guard.proofs.parts.dropped_rows.Goals.{then-not-holds+in_ok-copy+in_ok-push, else-not-holds}
@@ -29,9 +28,7 @@ holds-requires-clause-sizes g c =
     let R = g.S.Scalar.ring in
     omega (
       arith,
-      ap (row_size R) c.row-item.is,
-      rows_size-at R c.args.rows.now c.loop-row.row-index c.row-item.result
-          (omega arith),
+      rows_size-read R c.args.rows.now c.loop-row.row-index c.row-item.result c.row-item.is (omega arith),
     )
 
 pub returns : goal.returns

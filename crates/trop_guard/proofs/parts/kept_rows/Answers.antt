@@ -1,7 +1,6 @@
-use Rattle.std.proofs.Common.{arith, ap, sym, ◌∙◌, true≢false}
-use Rattle.trop_theory.specs.Vectors.{row_size}
+use Rattle.std.proofs.Common.{arith, sym, ◌∙◌, true≢false}
 use Rattle.trop_theory.specs.Inequalities.{IsTrueAt}
-use Rattle.trop_row.proofs.Steps.{rows_size-at}
+use Rattle.trop_row.proofs.Sizes.{rows_size-read}
 use Rattle.trop_row.proofs.StepMoves.{chosen_read, skipped_read}
 use Rattle.trop_guard.proofs.parts.kept_rows.Goals as goal
 use Rattle.trop_guard.proofs.parts.kept_rows.Goals.{then-holds+in_ok-copy+in_ok-push, else-holds}
@@ -27,7 +26,5 @@ holds-requires-clause-sizes g c =
     let R = g.S.Scalar.ring in
     omega (
       arith,
-      ap (row_size R) c.row-item.is,
-      rows_size-at R c.args.rows.now c.loop-row.row-index c.row-item.result
-          (omega arith),
+      rows_size-read R c.args.rows.now c.loop-row.row-index c.row-item.result c.row-item.is (omega arith),
     )

@@ -1,8 +1,8 @@
 use Rattle.std.proofs.Common.{◌≡◌, length, arith, ap, sym, ◌∙◌, refl, subst, true≢false}
 use Rattle.std.specs.Prelude.{◌↔◌, All, IsTrue}
-use Rattle.trop_theory.specs.Vectors.{row_size, rows_size}
+use Rattle.trop_theory.specs.Vectors.{rows_size}
 use Rattle.trop_theory.specs.Inequalities.{system_size}
-use Rattle.trop_row.proofs.Steps.{rows_size-at}
+use Rattle.trop_row.proofs.Sizes.{rows_size-read}
 use Rattle.trop_duality.specs.Lean.{Certifies}
 use Rattle.trop_duality.proofs.Lean.{certified_needed}
 use Rattle.trop_lean.specs.Certificates.{FailsAlone}
@@ -16,8 +16,7 @@ fails_alone-requires-clause-sizes g c =
       arith,
       c.requires.sizes,
       ap (system_size R) c.as_slice-inequalities.ensures.inequalities,
-      ap (row_size R) c.index-rows-k.is,
-      rows_size-at R c.as_slice-rows.result.now c.loop-k.k c.index-rows-k.result (omega arith),
+      rows_size-read R c.as_slice-rows.result.now c.loop-k.k c.index-rows-k.result c.index-rows-k.is (omega arith),
       ap (rows_size R) c.as_slice-rows.ensures.rows,
     )
 

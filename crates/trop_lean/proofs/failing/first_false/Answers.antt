@@ -1,9 +1,8 @@
-use Rattle.std.proofs.Common.{arith, ap, subst, sym, ◌∙◌, true≢false}
+use Rattle.std.proofs.Common.{arith, subst, sym, ◌∙◌, true≢false}
 use Rattle.std.specs.Prelude.{All}
 use Rattle.std.proofs.lemmas.List.{take_all}
-use Rattle.trop_theory.specs.Vectors.{row_size}
 use Rattle.trop_theory.specs.Inequalities.{IsTrueAt}
-use Rattle.trop_row.proofs.Steps.{rows_size-at}
+use Rattle.trop_row.proofs.Sizes.{rows_size-read}
 use Rattle.trop_lean.proofs.Taken.{true_more, first_false_at}
 use Rattle.trop_lean.proofs.failing.first_false.Goals as goal
 
@@ -13,8 +12,7 @@ holds-requires-clause-sizes g c =
     omega (
       arith,
       c.requires.sizes,
-      ap (row_size R) c.index-rows-k.is,
-      rows_size-at R c.args.rows.now c.loop-k.k c.index-rows-k.result (omega arith),
+      rows_size-read R c.args.rows.now c.loop-k.k c.index-rows-k.result c.index-rows-k.is (omega arith),
     )
 
 pub returns-then-not-holds-clause-some : goal.returns-then-not-holds-clause-some

@@ -9,14 +9,14 @@ returns-then-is_empty-clause-addition g c = loose_addition g.met.S.Scalar.ring_l
 
 pub types_with-requires-clause-edge : goal.types_with-requires-clause-edge
 types_with-requires-clause-edge g c = (has_edge _ c.args.slot c.is_empty.result c.slot.view_is c.if-is_empty.false
-    c.is_empty.ensures.none c.is_empty.ensures.fits)
+    c.is_empty.ensures.none)
 
 pub left_alone-alone-requires : goal.left_alone-alone-requires
 left_alone-alone-requires g c = record {
   some = some_tail g.met.S.Scalar.ring_laws c.args.system.now.n
       c.args.system.now.inequalities c.args.ineq.now c.args.side.now c.args.slot _ c.slot-2.view_is c.requires.last
       c.requires.side c.requires.slot (has_edge _ c.args.slot c.is_empty.result c.slot.view_is c.if-is_empty.false
-      c.is_empty.ensures.none c.is_empty.ensures.fits);
+      c.is_empty.ensures.none);
 }
 
 pub returns-clause-addition : goal.returns-clause-addition

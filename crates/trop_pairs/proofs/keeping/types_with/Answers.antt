@@ -24,8 +24,8 @@ add_slot-requires g c = record {
       c.one-2.ensures c.fill_pair.new.room.nodes c.in_ok-fill_pair.ensures.nodes;
 }
 
-pub closure-requires-clause-node : goal.closure-requires-clause-node
-closure-requires-clause-node g c = own_node g.met.S.Scalar.ring_laws c.args.system.now.n c.args.system.now.inequalities
+pub closure-requires : goal.closure-requires
+closure-requires g c = own_node g.met.S.Scalar.ring_laws c.args.system.now.n c.args.system.now.inequalities
     c.args.ineq.now c.args.side.now c.args.slot c.requires.inside c.requires.last c.requires.side c.requires.some
     c.requires.holds c.requires.slot c.one.result c.one-2.result c.one.ensures c.one-2.ensures
     c.fill_pair.new.room.nodes c.in_ok-fill_pair.ensures.nodes c.types-types.result c.in-Some.t _ c.types-types.ensures

@@ -1,7 +1,6 @@
 use Rattle.std.proofs.Common.{arith, ap, ◌∙◌, ◌+◌, sym, subst, true≢false, take}
 use Rattle.std.proofs.lemmas.List.{take_all}
-use Rattle.trop_theory.specs.Vectors.{row_size}
-use Rattle.trop_row.proofs.Steps.{rows_size-at}
+use Rattle.trop_row.proofs.Sizes.{rows_size-read}
 use Rattle.trop_duality.specs.Barriers.{IsHigh}
 use Rattle.trop_duality.proofs.Barriers.{high_skip, high_more}
 use Rattle.trop_polar.proofs.barrier.high_enough.Goals as goal
@@ -10,7 +9,7 @@ use Rattle.trop_polar.proofs.barrier.high_enough.Goals.{then-not-is_zero, else-n
 pub quotient-requires-clause-size : goal.quotient-requires-clause-size
 quotient-requires-clause-size g c =
     let R = g.S.Scalar.ring in
-    omega (arith, ap (row_size R) c.row-item.is, rows_size-at R c.args.rows.now c.loop-row.row-index c.row-item.result (omega arith))
+    omega (arith, rows_size-read R c.args.rows.now c.loop-row.row-index c.row-item.result c.row-item.is (omega arith))
 
 pub loop-row-preserved : goal.loop-row-preserved
 loop-row-preserved g c = elim c.if-not-is_zero.branch [

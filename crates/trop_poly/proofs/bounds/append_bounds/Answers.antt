@@ -1,7 +1,6 @@
 use Rattle.std.proofs.Common.{arith, length, [], ◌∷◌, ◌++◌, ap, ◌∙◌, sym, true≢false}
 use Rattle.std.proofs.lemmas.List.{length_push}
-use Rattle.trop_theory.specs.Vectors.{row_size}
-use Rattle.trop_row.proofs.Steps.{rows_size-at}
+use Rattle.trop_row.proofs.Sizes.{rows_size-read}
 use Rattle.trop_poly.proofs.Appended.{appended_more, appended_skip}
 use Rattle.trop_poly.proofs.bounds.append_bounds.Goals as goal
 use Rattle.trop_poly.proofs.bounds.append_bounds.Goals.{then-not-is_zero+in_ok-inequality_of+in_ok-push, else-not-is_zero}
@@ -11,9 +10,7 @@ inequality_of-requires-clause-size g c =
     let R = g.S.Scalar.ring in
     omega (
       arith,
-      ap (row_size R) c.row-item.is,
-      rows_size-at R c.args.polar.now c.loop-row.row-index c.row-item.result
-          (omega arith),
+      rows_size-read R c.args.polar.now c.loop-row.row-index c.row-item.result c.row-item.is (omega arith),
     )
 
 pub loop-row-preserved : goal.loop-row-preserved

@@ -1,9 +1,8 @@
-use Rattle.std.proofs.Common.{arith, ap, subst, sym, ◌∙◌, true≢false}
+use Rattle.std.proofs.Common.{arith, subst, sym, ◌∙◌, true≢false}
 use Rattle.std.specs.Prelude.{All}
 use Rattle.std.proofs.lemmas.List.{take_all}
-use Rattle.trop_theory.specs.Vectors.{row_size}
 use Rattle.trop_theory.specs.Combinations.{IsCombination}
-use Rattle.trop_row.proofs.Steps.{rows_size-at}
+use Rattle.trop_row.proofs.Sizes.{rows_size-read}
 use Rattle.trop_poly.proofs.Compared.{inside_more, first_outside_at}
 use Rattle.trop_poly.proofs.comparing.first_of.Goals as goal
 
@@ -13,8 +12,7 @@ member-requires-clause-target_size g c =
     omega (
       arith,
       c.requires.size,
-      ap (row_size R) c.index-rows-k.is,
-      rows_size-at R c.args.rows.now c.loop-k.k c.index-rows-k.result (omega arith),
+      rows_size-read R c.args.rows.now c.loop-k.k c.index-rows-k.result c.index-rows-k.is (omega arith),
     )
 
 pub returns-then-not-member-clause-some : goal.returns-then-not-member-clause-some

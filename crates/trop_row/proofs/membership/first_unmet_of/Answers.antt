@@ -9,7 +9,8 @@ returns-then-not-some_meets_of g c =
     let R = g.S.Scalar.ring in record {
       within = omega arith;
       first = record {
-        finite = λ z. true≢false (sym (c.is_zero.ensures.1 (sym (entry_read R c.args.target.now c.loop-t.t _ c.index-target-t.is (omega arith)) ∙ z)) ∙ c.if-not-is_zero.true);
+        finite = λ z. true≢false (sym (c.is_zero.ensures.1 (sym (entry_read R c.args.target.now c.loop-t.t _
+            c.index-target-t.is (omega arith)) ∙ z)) ∙ c.if-not-is_zero.true);
         unmet = λ a. true≢false (sym (c.some_meets_of.ensures.1 a) ∙ c.if-not-some_meets_of.true);
         before = c.loop-t.invariant;
       };
@@ -18,5 +19,6 @@ returns-then-not-some_meets_of g c =
 pub returns : goal.returns
 returns g c = record {
   within = tt;
-  first = all_met g.met.S.Scalar.ring_laws c.args.rows.now c.args.target.now c.loop-t.t c.requires.wide (omega arith) c.loop-t.invariant;
+  first = all_met g.met.S.Scalar.ring_laws c.args.rows.now c.args.target.now c.loop-t.t c.requires.wide (omega arith)
+      c.loop-t.invariant;
 }

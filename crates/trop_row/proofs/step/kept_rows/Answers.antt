@@ -10,8 +10,12 @@ loop-row-preserved g c =
     elim c.if-holds.branch [
       | then-holds+in_ok-copy+in_ok-push w ↦
           rw (w.out-is, w.in_ok-push.ensures.items)
-          (chosen_read P c.args.rows.now c.loop-row.out.items c.loop-row.row-index c.row-item.result _ c.loop-row.invariant (omega arith) c.row-item.is w.in_ok-copy.ensures.same (c.holds.ensures.0 w.if-holds.true))
+          (chosen_read P c.args.rows.now c.loop-row.out.items c.loop-row.row-index c.row-item.result _
+          c.loop-row.invariant (omega arith) c.row-item.is w.in_ok-copy.ensures.same
+          (c.holds.ensures.0 w.if-holds.true))
       | else-holds w ↦
           rw w.out-is
-          (skipped_read P c.args.rows.now c.loop-row.out.items c.loop-row.row-index c.row-item.result c.loop-row.invariant (omega arith) c.row-item.is (λ t. true≢false (sym (c.holds.ensures.1 t) ∙ w.if-holds.false)))
+          (skipped_read P c.args.rows.now c.loop-row.out.items c.loop-row.row-index c.row-item.result
+          c.loop-row.invariant (omega arith) c.row-item.is (λ t. true≢false
+          (sym (c.holds.ensures.1 t) ∙ w.if-holds.false)))
     ]

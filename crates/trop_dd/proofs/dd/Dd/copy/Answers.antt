@@ -45,7 +45,8 @@ invariant_of-result g c = (
 pub returns : goal.returns
 returns g c = record {
   same = same_description c.self.inside.system.n c.in_ok-system.system.n
-      c.self.inside.system.inequalities c.in_ok-system.system.inequalities c.self.inside.rows.rows c.from_rows.result.rows
+      c.self.inside.system.inequalities c.in_ok-system.system.inequalities c.self.inside.rows.rows
+      c.from_rows.result.rows
       (c.in_ok-system.ensures.width ∙ c.n-n.ensures.value)
       (c.in_ok-system.ensures.inequalities ∙ c.as_slice.ensures.inequalities)
       (c.from_rows.ensures.rows ∙ c.in_ok-rows.ensures ∙ c.as_slice-2.ensures.rows) c.args.self.now c.self.view_is;

@@ -11,6 +11,6 @@ returns-clause-ok g c =
       words = search rules;
       slots = search rules;
       places = adds_place c.args.slot _ c.len.result c.args.self.now.places c.push-2.new.self.items
-          (has_edge _ c.args.slot c.is_empty.result c.slot.view_is c.if-is_empty.false c.is_empty.ensures.none
-          c.is_empty.ensures.fits) (search rules) e;
+          (has_edge _ c.args.slot c.is_empty.result c.slot.view_is c.if-is_empty.false c.is_empty.ensures.none)
+          (search rules) e;
     }

@@ -13,8 +13,8 @@ returns-then-not-is_empty g c old slot h =
     taken_back old c.args.self.now slot c.in-Some.slot c.pop.new.self.items c.pop-place.new.self.items h es _
     (search rules) (search rules) refl (places_popped old c.args.self.now slot c.in-Some.slot c.pop.new.self.items
     c.pop-place.new.self.items h es c.pop-place.new.self.items c.pop-place.result _ _
-    (has_edge _ c.in-Some.slot c.is_empty.result c.slot.view_is c.if-not-is_empty.true c.is_empty.ensures.none
-    c.is_empty.ensures.fits) (search rules) (search rules) c.pop-place.ensures.cases)
+    (has_edge _ c.in-Some.slot c.is_empty.result c.slot.view_is c.if-not-is_empty.true c.is_empty.ensures.none)
+    (search rules) (search rules) c.pop-place.ensures.cases)
 
 pub returns-else-not-is_empty : goal.returns-else-not-is_empty
 returns-else-not-is_empty g c old slot h =

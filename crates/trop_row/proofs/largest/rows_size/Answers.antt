@@ -1,7 +1,7 @@
 use Rattle.std.proofs.Common.{arith, ap}
 use Rattle.trop_theory.specs.Vectors.{row_size}
-use Rattle.trop_poly.proofs.Kept.{rows_size-taken}
-use Rattle.trop_poly.proofs.largest.largest_of.Goals as goal
+use Rattle.trop_row.proofs.Sizes.{rows_size-taken}
+use Rattle.trop_row.proofs.largest.rows_size.Goals as goal
 
 pub loop-row-preserved : goal.loop-row-preserved
 loop-row-preserved g c =

@@ -1,6 +1,6 @@
 use Rattle.std.proofs.Common.{◌≡◌, take}
 use Rattle.trop_theory.specs.Vectors.{rows_size}
-use Rattle.trop_poly.proofs.largest.largest_of.Given as goal
+use Rattle.trop_row.proofs.largest.rows_size.Given as goal
 
 abbrev pub invariant-loop-row : goal.invariant-loop-row
 invariant-loop-row g l = l.largest ≡ rows_size g.S.Scalar.ring (take l.row-index l.rows)

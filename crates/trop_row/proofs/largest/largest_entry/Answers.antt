@@ -1,6 +1,6 @@
 use Rattle.std.proofs.Common.{arith}
-use Rattle.trop_poly.proofs.Kept.{row_size-taken}
-use Rattle.trop_poly.proofs.largest.largest_entry.Goals as goal
+use Rattle.trop_row.proofs.Sizes.{row_size-taken}
+use Rattle.trop_row.proofs.largest.largest_entry.Goals as goal
 
 pub loop-x-preserved : goal.loop-x-preserved
 loop-x-preserved g c =
