@@ -74,51 +74,42 @@ fn letter(known: Known) -> char {
     }
 }
 
-// Whether these are the values of the points.
-fn agrees(family: &Family<FirstZero>, case: &Case) -> bool {
-    if family.passes != case.passes {
-        return false;
-    }
-    let mut left = case.known.chars();
+// The passes of the ascent, and what is known at each point.
+fn told(alloc: Global, family: &Family<FirstZero>) -> Result<String, Fail> {
+    let mut text = format!(in alloc; "{} passes, ", family.passes)?;
     for value in &family.values {
-        if left.next() != Some(letter(value.known())) {
-            return false;
-        }
+        text.push(letter(value.known()))?;
     }
-    left.next().is_none()
+    Ok(text)
 }
 
-fn passes_case(alloc: Global, case: &Case) -> Result<bool, Fail> {
-    let graph = match graph_of(alloc, case.program.as_bytes())? {
-        Some(graph) => graph,
-        None => return Ok(false),
+fn analysed(alloc: Global, case: &Case) -> Result<String, Fail> {
+    let (delay, narrow) = (case.delay, case.narrow);
+    let Some(graph) = graph_of(alloc, case.program.as_bytes())? else {
+        return Ok(String::from_str(alloc, "no program")?);
     };
-    let delay = case.delay;
-    let narrow = case.narrow;
     if graph.vars() > 63 {
-        return Ok(false);
+        return Ok(String::from_str(alloc, "too many variables")?);
     }
     if delay > 1000 {
-        return Ok(false);
+        return Ok(String::from_str(alloc, "too great a delay")?);
     }
     if narrow > 100 {
-        return Ok(false);
+        return Ok(String::from_str(alloc, "too much narrowing")?);
     }
     match analyse::<FirstZero>(alloc, &graph, delay, narrow) {
-        Ok(family) => Ok(agrees(&family, case)),
-        Err(_) => Ok(false),
+        Ok(family) => told(alloc, &family),
+        Err(_) => Ok(String::from_str(alloc, "refused")?),
     }
 }
 
 #[test]
 fn first_variables(rt: HostRuntime) -> Result<(), Fail> {
-    let mut failed = false;
+    let alloc = rt.alloc();
     for case in &CASES {
-        if !passes_case(rt.alloc(), case)? {
-            println!(rt; "{}", case.program)?;
-            failed = true;
-        }
+        let wanted = format!(in alloc; "{} passes, {}", case.passes, case.known)?;
+        let got = analysed(alloc, case)?;
+        assert_eq!(rt; got.as_str(), wanted.as_str(), "{}", case.program);
     }
-    assert!(rt; !failed);
     Ok(())
 }
