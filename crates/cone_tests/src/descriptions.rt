@@ -3,12 +3,12 @@ ghost use Rattle.std.specs.Prelude.{◌≡◌, ◌≤◌, ◌∷◌, [], ◌^◌
 ghost use Rattle.trop_theory.specs.Vectors.{row_size};
 ghost use Rattle.trop_theory.specs.Inequalities.{IsIn, inequality_size, system_size};
 
-use crate::common::{element, span};
+use crate::common::{element, same, shown, span};
 use std::alloc::{AllocError, Global};
 use std::test::Fail;
 use trop_dd::{Dd, DdErr, equal_rows_are_equal_solutions, extreme_rows};
 use trop_hyper::Looks;
-use trop_row::{Gens, Ineq, Row, System};
+use trop_row::{Ineq, Row, System};
 use trop_scalar::{Flag, MaxInt, MinInt, Scalar};
 
 const O: bool = false;
@@ -36,29 +36,43 @@ fn x_below_y<S: Scalar>(alloc: Global) -> Result<Ineq<S>, AllocError>
     Ok(Ineq::new(row(alloc, [O, I, O])?, row(alloc, [O, O, I])?))
 }
 
-// Whether the rows are those of x at most y: two rays and a point.
-fn are_sorted_pairs<S: Scalar>(alloc: Global, rows: &Gens<S>) -> Result<bool, AllocError> {
-    if rows.len() != 3 {
-        return Ok(false);
-    }
-    let first = row(alloc, [O, O, I])?;
-    let second = row(alloc, [O, I, I])?;
-    let third = row(alloc, [I, O, O])?;
-    Ok(*rows.get(0) == first && *rows.get(1) == second && *rows.get(2) == third)
-}
+// The rows of x at most y: two rays and a point.
+const SORTED_PAIRS: &str = " - - 0; - 0 0; 0 - -;";
 
-// The system of x at most y alone, pushed and converted.
-fn converts<S: Scalar>(alloc: Global) -> Result<bool, DdErr> {
+// That the system of x at most y alone has these rows, pushed and converted; a failure with what came, where not.
+fn converts<S: Scalar>(alloc: Global) -> Result<bool, Fail> {
     equal_rows_are_equal_solutions::<S>();
     let mut looks = Looks::new();
     let mut dd = Dd::<S>::new(alloc, 3)?;
-    dd.push(alloc, x_below_y(alloc)?, &mut looks)?;
-    let pushed = are_sorted_pairs(alloc, dd.rows())? && looks.count() > 0;
+    dd.push(alloc, x_below_y(alloc)?, &mut looks)
+        .map_err(|_| "not pushed")?;
+    let count = looks.count();
     let mut system = System::<S>::new(alloc, 3);
     system.push(x_below_y(alloc)?)?;
-    let rows = extreme_rows(alloc, &system, &mut looks)?;
-    let converted = are_sorted_pairs(alloc, &rows)?;
-    Ok(pushed && converted && dd.system().len() == 1 && are_sorted_pairs(alloc, &dd.into_rows())?)
+    let rows = extreme_rows(alloc, &system, &mut looks).map_err(|_| "not converted")?;
+    let pushed = shown(alloc, dd.rows())?;
+    let counted = format!(in alloc; "{} inequality, looks {}", dd.system().len(), count > 0)?;
+    Ok(
+        same(alloc, "pushed", SORTED_PAIRS, pushed.as_str())?
+            && same(
+                alloc,
+                "converted",
+                SORTED_PAIRS,
+                shown(alloc, &rows)?.as_str(),
+            )?
+            && same(
+                alloc,
+                "counted",
+                "1 inequality, looks true",
+                counted.as_str(),
+            )?
+            && same(
+                alloc,
+                "taken out",
+                SORTED_PAIRS,
+                shown(alloc, &dd.into_rows())?.as_str(),
+            )?,
+    )
 }
 
 #[test]

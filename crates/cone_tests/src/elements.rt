@@ -2,7 +2,7 @@
 ghost use Rattle.std.specs.Prelude.{◌≤◌};
 
 use crate::common::span;
-use std::alloc::{AllocError, Global};
+use std::alloc::Global;
 use std::test::Fail;
 use trop_scalar::{Flag, MaxInt, MinInt, Scalar};
 
@@ -40,10 +40,10 @@ fn sums_of_products(rt: HostRuntime) {
     assert_eq!(rt; MinInt::sum_of_products(&[], &[]).number(), None);
 }
 
-// Whether each of so many products counts: with one coefficient finite the sum is the one, with one the zero it is the
-// one where
-// there are others, and with coefficients and entries finite at different places it is the zero.
-fn each_counts<S: Scalar>(alloc: Global, len: u32) -> Result<bool, AllocError>
+// That each of so many products counts: with one coefficient finite the sum is the one, with one the zero it is the one
+// where there are others, and with coefficients and entries finite at different places it is the zero. A failure with the
+// place, and which of the three came, where not.
+fn each_counts<S: Scalar>(alloc: Global, len: u32) -> Result<bool, Fail>
     requires { len ≤ 32 }
 {
     let ones = span::<S>(alloc, len, 0, len, true)?;
@@ -54,14 +54,17 @@ fn each_counts<S: Scalar>(alloc: Global, len: u32) -> Result<bool, AllocError>
         let rest = S::sum_of_products(others.as_slice(), ones.as_slice()) == S::one();
         let none = S::sum_of_products(only.as_slice(), others.as_slice()) == S::zero();
         if !counts || rest != (len > 1) || !none {
-            return Ok(false);
+            return Err(Fail::new(format!(in alloc;
+                "length {len}, place {place}: wanted true {} true, got {counts} {rest} {none}",
+                len > 1
+            )?));
         }
     }
     Ok(true)
 }
 
 // Lengths from 0 to 32.
-fn each_length_counts<S: Scalar>(alloc: Global) -> Result<bool, AllocError> {
+fn each_length_counts<S: Scalar>(alloc: Global) -> Result<bool, Fail> {
     for len in 0..33 {
         if !each_counts::<S>(alloc, len)? {
             return Ok(false);

@@ -8,6 +8,7 @@ use std::alloc::{AllocError, Global};
 use std::test::Fail;
 use trop_dd::DdErr;
 use trop_guard::GuardErr;
+use trop_lean::LeanErr;
 use trop_poly::{Poly, PolyErr};
 use trop_row::Gens;
 use trop_scalar::MaxInt;
@@ -77,6 +78,11 @@ fn texts_of_errors(rt: HostRuntime) -> Result<(), Fail> {
             "the first 4 inequalities have more than 4096 extreme rows",
         ),
         (format!(in alloc; "{}", DdErr::NoMemory)?, "no memory"),
+        (
+            format!(in alloc; "{}", LeanErr::Rows(2, 3))?,
+            "at turn 2 the first 3 inequalities have more than 4096 extreme rows",
+        ),
+        (format!(in alloc; "{}", LeanErr::NoMemory)?, "no memory"),
     ];
     for (got, wanted) in &texts {
         assert!(rt; same_text(alloc, wanted, got.as_str())?);

@@ -1,6 +1,7 @@
 //! Tables of texts and of runs, a file a kind of input or of fault.
 mod altered;
 mod devices;
+mod harness;
 mod laws;
 mod pairs;
 mod runs;

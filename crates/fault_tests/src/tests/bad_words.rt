@@ -61,6 +61,13 @@ const BAD_WORDS: [&str; 53] = [
     "int lean=off",
 ];
 
+// Modes of analyses that are in no table of words.
+const OTHER_MODES: [&str; 3] = [
+    "analyze mode=mixed",
+    "analyze mode=zone",
+    "analyze mode=zone delay=2",
+];
+
 const LINE: &[u8] = b"tplib: bad words\n";
 
 #[test]
@@ -68,6 +75,15 @@ fn words_that_are_no_command(rt: HostRuntime) -> Result<(), Fail> {
     let alloc = rt.alloc();
     for words in &BAD_WORDS {
         assert!(rt; ends_so(alloc, words, b"kind", 2, b"", LINE)?, "{words}");
+    }
+    Ok(())
+}
+
+#[test]
+fn modes_that_are_no_command(rt: HostRuntime) -> Result<(), Fail> {
+    let alloc = rt.alloc();
+    for words in &OTHER_MODES {
+        assert!(rt; ends_so(alloc, words, b"vars;", 2, b"", LINE)?, "{words}");
     }
     Ok(())
 }

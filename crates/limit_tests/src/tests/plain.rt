@@ -1,9 +1,8 @@
 // The plain way to the extreme rows, with arithmetic of its own: from the unit rows on, for each inequality all mixed
-// rows
-// of a row that it keeps and one that it drops, and at the end `reduce`. It gives what `ext` gives.
+// rows of a row that it keeps and one that it drops, and at the end `reduce`. It gives what `ext` gives.
 
 use itoa::Buffer;
-use run_examples::{Draws, answer_of};
+use run_examples::{Draws, answer_of, same_ending};
 use std::alloc::Global;
 use std::test::Fail;
 
@@ -274,18 +273,20 @@ fn generators(alloc: Global, rows: &[Entries], n: usize, ring: Ring) -> Result<V
     Ok(text)
 }
 
-// Whether both ways agree on the system of the seed: 1 to 3 variables and 1 to 4 inequalities.
+// That both ways agree on the system of the seed, of 1 to 3 variables and 1 to 4 inequalities; a failure with both
+// answers, where not.
 fn agree(alloc: Global, seed: u32, ring: Ring) -> Result<bool, Fail> {
     let n = seed as usize % 3 + 2;
     let mut draws = Draws::from_seed(seed);
     let system = system_of(alloc, &mut draws, n, seed % 4 + 1, ring)?;
     let rows = generated(alloc, n, &system)?;
     let plain = answer_of(alloc, "reduce", &generators(alloc, &rows, n, ring)?)?;
-    let answer = answer_of(alloc, "ext", &inequalities(alloc, &system, n, ring)?)?;
+    let asked = inequalities(alloc, &system, n, ring)?;
+    let answer = answer_of(alloc, "ext", &asked)?;
     let (Some(plain), Some(answer)) = (plain, answer) else {
         return Ok(false);
     };
-    Ok(plain.as_slice() == answer.as_slice())
+    same_ending(alloc, ("ext", &asked), (0, &plain, b""), (0, &answer, b""))
 }
 
 #[test]
