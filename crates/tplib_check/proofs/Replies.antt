@@ -7,15 +7,25 @@ use Rattle.cone_reports.specs.Reports.{Report}
 use Rattle.cone_reports.specs.Verdicts.{Verdict, Inductive, NotWhole, Escapes, InvFails, AssertWrong, IsVerdict}
 use Rattle.prog_check.specs.Truths.{IsTrueAtVisits}
 use Rattle.tplib_check.specs.Lines.{verdict_line, says_inductive}
-use Rattle.tplib_check.specs.Answers.{IsVerdictReply}
+use Rattle.tplib_check.specs.Words.{HasSuitableWords}
+use Rattle.tplib_check.specs.Answers.{AreProvedTrue, IsVerdictReply}
 
-module _ {V : Type 0} (kind : RingKind) (R : Semiring V) (N : Numbering V) (reversed : Bool) (report : Report V) where
+module _ {V : Type 0} (kind : RingKind) (R : Semiring V) (N : Numbering V) (reversed : Bool) (report : Report V)
+    (words : HasSuitableWords reversed report.program) where
+  claims_are_true : IsTrueAtVisits R N reversed report → AreProvedTrue report
+  claims_are_true t k a is says s v = t.proved k a is says (words k a is) s v
+
   -- with the answer and the text of the verdict itself
   reply_of : (v : Verdict V) → IsVerdict R N reversed report v
       → ((other : Verdict V) → IsVerdict R N reversed report other → other ≡ v)
       → (v ≡ Inductive → IsTrueAtVisits R N reversed report) → (text : List ℕ) → text ≡ verdict_line kind N v
       → IsVerdictReply kind R N reversed report (says_inductive v) text
-  reply_of Inductive h only t text l = record { inductive = h; true_at_visits = t refl; line = l }
+  reply_of Inductive h only t text l = record {
+    inductive = h;
+    true_at_visits = t refl;
+    claims = claims_are_true (t refl);
+    line = l;
+  }
   reply_of NotWhole h only t text l = record {
     not_inductive = λ i. let e : ◌≡◌ {A = Verdict V} Inductive NotWhole = only Inductive i in cc;
     verdict = NotWhole;
@@ -43,7 +53,7 @@ module _ {V : Type 0} (kind : RingKind) (R : Semiring V) (N : Numbering V) (reve
 
   pub reply_is : (v : Verdict V) → IsVerdict R N reversed report v
       → ((other : Verdict V) → IsVerdict R N reversed report other → other ≡ v)
-      → (v ≡ Inductive → IsTrueAtVisits R N reversed report) → (told : Bool) → told ≡ says_inductive v → (text : List ℕ)
-      → text ≡ verdict_line kind N v → IsVerdictReply kind R N reversed report told text
-  reply_is v h only t told e text l =
+      → (v ≡ Inductive → IsTrueAtVisits R N reversed report) → (yes : Bool) → yes ≡ says_inductive v → (text : List ℕ)
+      → text ≡ verdict_line kind N v → IsVerdictReply kind R N reversed report yes text
+  reply_is v h only t yes e text l =
       subst (λ b. IsVerdictReply kind R N reversed report b text) (sym e) (reply_of v h only t text l)

@@ -1,3 +1,4 @@
 pub mod Lines
+pub mod Words
 pub mod Answers
 pub mod Check

@@ -7,5 +7,5 @@ pub returns : goal.returns
 returns g c =
     let v = c.in_ok-verdict.ensures in
     reply_is g.S.Spelling.KIND g.S.Scalar.ring g.S.Scalar.numbering g.S.Scalar.REVERSED (said c.args.report.now)
-    (verdict_of c.in_ok-verdict.verdict) v.verdict v.unique v.true_at_visits c.is_inductive.result
+    c.requires.words (verdict_of c.in_ok-verdict.verdict) v.verdict v.unique v.true_at_visits c.is_inductive.result
     c.is_inductive.ensures c.in_ok-text.text.items c.in_ok-text.ensures
