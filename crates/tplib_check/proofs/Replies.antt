@@ -3,7 +3,11 @@ use Rattle.std.proofs.Common.{◌≡◌, ℕ, Bool, List, refl, sym, subst}
 use Rattle.trop_theory.specs.Semiring.{Semiring}
 use Rattle.trop_theory.specs.Numbers.{Numbering}
 use Rattle.trop_spelling.specs.declared.ring_kind.RingKind.{RingKind}
+use Rattle.std.proofs.lemmas.List.Elements.{All-contains}
 use Rattle.cone_reports.specs.Reports.{Report}
+use Rattle.cone_reports.specs.Readings.{SuitsWords}
+use Rattle.cone_reports.specs.Asserts.{Assertion, asserts}
+use Rattle.cone_reports.proofs.Checks.{get_contains}
 use Rattle.cone_reports.specs.Verdicts.{Verdict, Inductive, NotWhole, Escapes, InvFails, AssertWrong, IsVerdict}
 use Rattle.prog_check.specs.Truths.{IsTrueAtVisits}
 use Rattle.tplib_check.specs.Lines.{verdict_line, says_inductive}
@@ -13,7 +17,10 @@ use Rattle.tplib_check.specs.Answers.{AreProvedTrue, IsVerdictReply}
 module _ {V : Type 0} (kind : RingKind) (R : Semiring V) (N : Numbering V) (reversed : Bool) (report : Report V)
     (words : HasSuitableWords reversed report.program) where
   claims_are_true : IsTrueAtVisits R N reversed report → AreProvedTrue report
-  claims_are_true t k a is says s v = t.proved k a is says (words k a is) s v
+  claims_are_true t k a is says s v =
+      let suits = All-contains (λ (b : Assertion). SuitsWords reversed b.claim) (asserts report.program) a words
+      (get_contains (asserts report.program) k a is) in
+      t.proved k a is says suits s v
 
   -- with the answer and the text of the verdict itself
   reply_of : (v : Verdict V) → IsVerdict R N reversed report v
@@ -53,7 +60,7 @@ module _ {V : Type 0} (kind : RingKind) (R : Semiring V) (N : Numbering V) (reve
 
   pub reply_is : (v : Verdict V) → IsVerdict R N reversed report v
       → ((other : Verdict V) → IsVerdict R N reversed report other → other ≡ v)
-      → (v ≡ Inductive → IsTrueAtVisits R N reversed report) → (yes : Bool) → yes ≡ says_inductive v → (text : List ℕ)
-      → text ≡ verdict_line kind N v → IsVerdictReply kind R N reversed report yes text
-  reply_is v h only t yes e text l =
+      → (v ≡ Inductive → IsTrueAtVisits R N reversed report) → (says : Bool) → says ≡ says_inductive v → (text : List ℕ)
+      → text ≡ verdict_line kind N v → IsVerdictReply kind R N reversed report says text
+  reply_is v h only t says e text l =
       subst (λ b. IsVerdictReply kind R N reversed report b text) (sym e) (reply_of v h only t text l)

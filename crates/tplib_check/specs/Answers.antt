@@ -44,5 +44,5 @@ IsVerdictReply kind R N reversed report false text = IsFailureAnswer kind R N re
 
 -- in the semiring of the report's mode
 abbrev pub IsCheckAnswer : ReportText → Bool → List ℕ → Type 0
-IsCheckAnswer r yes text =
-    IsVerdictReply (kind_of r.mode) (ring_of r.mode) numbering (is_reversed r.mode) (said_by r) yes text
+IsCheckAnswer r says text =
+    IsVerdictReply (kind_of r.mode) (ring_of r.mode) numbering (is_reversed r.mode) (said_by r) says text

@@ -3,8 +3,8 @@ use Rattle.report_value.specs.Texts.{text_of}
 use Rattle.tplib_check.proofs.Words.{report_words}
 use Rattle.tplib_check.proofs.check.check_reply.Goals as goal
 
-pub reply-requires : goal.reply-requires
-reply-requires c = record {
+pub report_reply-requires : goal.report_reply-requires
+report_reply-requires c = record {
   words = report_words (pieces_of c.args.bytes.now) (text_of c.in_ok-report.report) c.in_ok-report.ensures.found;
 }
 

@@ -13,8 +13,8 @@ verdict_reply-requires c = record {
       c.requires.words;
 }
 
-pub verdict_reply-in-Min-requires : goal.verdict_reply-in-Min-requires
-verdict_reply-in-Min-requires c = record {
+pub verdict_reply-requires-in-Min : goal.verdict_reply-requires-in-Min
+verdict_reply-requires-in-Min c = record {
   words = subst (λ r. HasSuitableWords (is_reversed (text_of r).mode) (said_by (text_of r)).program) c.in-Min.is
       c.requires.words;
 }
