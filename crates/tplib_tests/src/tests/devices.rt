@@ -1,5 +1,5 @@
 //! Sources and sinks that fail.
-use super::harness::{Run, calm, ends_with};
+use super::harness::{Run, ends_with};
 use run_examples::{same_ending, split};
 use std::alloc::Global;
 use std::test::Fail;
@@ -19,9 +19,22 @@ const READ_FAILED: &str = "tplib: read failed\n";
 
 const WRITE_FAILED: &str = "tplib: write failed\n";
 
-const REDUCE: Run = calm("points in a row", "reduce", POINTS);
+const REDUCE: Run = Run {
+    why: "points in a row",
+    words: "reduce",
+    input: POINTS,
+    room: 4096,
+    read_fails: 0,
+    write_fails: 0,
+    err_fails: 0,
+};
 
-const EXT: Run = calm("one inequality", "ext", BELOW);
+const EXT: Run = Run {
+    why: "one inequality",
+    words: "ext",
+    input: BELOW,
+    ..REDUCE
+};
 
 // The 60 bytes of the one take 4 reads, the 40 bytes of the other take 3, and the end takes one more.
 const READS: [(Run, u64); 9] = [
