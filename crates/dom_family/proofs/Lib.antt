@@ -1,0 +1,4 @@
+pub mod Claims
+pub mod Lengths
+pub mod Zips
+pub mod Family
