@@ -1,0 +1,2 @@
+//! Short reports of zones as text.
+#![tactic(auto)]
