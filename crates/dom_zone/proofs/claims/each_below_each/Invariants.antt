@@ -1,0 +1,8 @@
+use Rattle.std.specs.Prelude.{All}
+use Rattle.dom_zone.specs.Values.{matrix_in}
+use Rattle.dom_zone.specs.Claims.{AtEach}
+use Rattle.dom_zone.proofs.Searches.{EachTo}
+use Rattle.dom_zone.proofs.claims.each_below_each.Given as goal
+
+abbrev pub invariant-loop-k : goal.invariant-loop-k
+invariant-loop-k l = EachTo (λ x. All (λ r1. AtEach l.vars (matrix_in l.vars l.bounds) x r1) l.rights) l.lefts l.k
