@@ -1,6 +1,6 @@
 -- The calls of the domain, for values of the code: their views are zones.
 use Rattle.std.proofs.Common.{◌≡◌, ◌≢◌, ◌⊎◌, inl, inr, ⊎_elim, ◌≤◌, ◌<◌, ◌^◌, ℕ, suc, ℤ, ◌-ℤ◌, Bool, List, Option, Some, None, refl, sym, ap, subst, subst₂, ◌∙◌, arith}
-use Rattle.std.specs.Prelude.{Result, Ok, Err, ◌↔◌, IsTrue, MatchOption}
+use Rattle.std.specs.Prelude.{Result, Ok, Err, ◌↔◌, IsTrue}
 use Rattle.prog_theory.specs.States.{State, Term}
 use Rattle.prog_theory.specs.Edges.{Op}
 use Rattle.prog_theory.specs.Fits.{FitsOp}
@@ -19,7 +19,7 @@ use Rattle.zone_theory.specs.Domain.{HasState, Within}
 use Rattle.zone_theory.proofs.Entries.{entry-apart}
 use Rattle.zone_theory.proofs.Images.{empty-image}
 use Rattle.zone_theory.proofs.Including.{pair-holds, holds-pair}
-use Rattle.dom_zone.specs.Zones.{ZoneList, matrix_in, matrix_if, zone_of, empty, zone_lists}
+use Rattle.zone_lists.specs.Zones.{ZoneList, matrix_in, matrix_if, zone_of, empty, zone_lists}
 use Rattle.dom_zone.specs.Values.{IsClosedTable, IsSmallTable, IsSmallIf, AreKept, AreKeptIf, IsSound, IsMoved, IsMet}
 use Rattle.dom_zone.specs.Answers.{IsFitted, IsFittedWith}
 use Rattle.dom_zone.specs.Widened.{IsLeft, IsSolved}
@@ -42,12 +42,12 @@ kept-both vars bounds k kept h e = subst (AreKeptIf vars (Some bounds)) e h
 
 -- ---- images
 
-pub image-none : (vars : ℕ) (b kept : Option (List Bound)) (op : Op) (x : ZoneList) (r : Result ZoneList DomErr) → b ≡ None
-    → list vars b kept ≡ x → FitsOp x.vars op → IsFitted vars None r → IsAnswer zone_lists (Apply op x) r
-image-none vars b kept op x r none e on f =
-    subst (λ x. FitsOp x.vars op → IsAnswer zone_lists (Apply op x) r)
+pub image-none : (vars : ℕ) (b kept : Option (List Bound)) (op : Op) (x y : ZoneList) → b ≡ None → list vars b kept ≡ x
+    → FitsOp x.vars op → y ≡ empty vars → IsAnswer zone_lists (Apply op x) (Ok y)
+image-none vars b kept op x y none e on is =
+    subst (λ x. FitsOp x.vars op → IsAnswer zone_lists (Apply op x) (Ok y))
     (ap (λ b. list vars b kept) (sym none) ∙ e)
-    (λ on. moved-answer op (list vars None kept) on None (record { closed = tt; image = empty-image vars op }) r f) on
+    (λ on. moved-answer op (list vars None kept) on None (record { closed = tt; image = empty-image vars op }) (Ok y) (is, tt)) on
 
 pub image-some : (vars : ℕ) (b kept : Option (List Bound)) (bounds : List Bound) (op : Op) (x : ZoneList)
     (made : Option (List Bound)) (r : Result ZoneList DomErr) → b ≡ Some bounds → list vars b kept ≡ x → FitsOp x.vars op
@@ -114,21 +114,24 @@ widen-by_empty n c keeps x next none e leaves = subst (λ y. (Within (zone_of y)
 
 -- ---- bounds
 
+some-is : (m u : Matrix) → ◌≡◌ {A = Option Matrix} (Some m) (Some u) → m ≡ u
+some-is m u e = cc
+
 module _ (vars : ℕ) (b kept : Option (List Bound)) (bounds : List Bound) (x : ZoneList) (some : b ≡ Some bounds)
     (e : list vars b kept ≡ x) where
   at : list vars (Some bounds) kept ≡ x
   at = ap (λ b. list vars b kept) (sym some) ∙ e
 
   pub bound-greatest : IsSmallTable vars bounds → (i j : ℕ) → i ≤ x.vars → j ≤ x.vars → i ≢ j → (r : Bound)
-      → r ≡ entry (matrix_in vars bounds) i j → IsGreatest (HasState (zone_of x)) i j r
-  bound-greatest small i j hi hj ne r is = subst (IsGreatest (HasState (zone_of x)) i j) (sym (is ∙ entry-apart (matrix_in vars bounds) i j ne))
+      → r ≡ matrix_in vars bounds i j → IsGreatest (HasState (zone_of x)) i j r
+  bound-greatest small i j hi hj ne r is = subst (IsGreatest (HasState (zone_of x)) i j) (sym is)
       (subst (λ x. i ≤ x.vars → j ≤ x.vars → IsGreatest (HasState (zone_of x)) i j (matrix_in vars bounds i j)) at
       (λ hi hj. small.closed.closed.greatest i j hi hj ne) hi hj)
 
-  pub bound-matrix : (i j : ℕ) → i ≢ j → (r : Bound) → r ≡ entry (matrix_in vars bounds) i j
-      → MatchOption x.bounds (Unit {0}) (λ bs. r ≡ matrix_in x.vars bs i j)
-  bound-matrix i j ne r is = subst (λ x. MatchOption x.bounds (Unit {0}) (λ bs. r ≡ matrix_in x.vars bs i j)) at
-      (is ∙ entry-apart (matrix_in vars bounds) i j ne)
+  pub bound-matrix : (i j : ℕ) → (r : Bound) → r ≡ matrix_in vars bounds i j → (m : Matrix)
+      → matrix_if x.vars x.bounds ≡ Some m → r ≡ m i j
+  bound-matrix i j r is m em = is ∙ ap (λ (m : Matrix). m i j) (some-is (matrix_in vars bounds) m
+      (subst (λ (x : ZoneList). matrix_if x.vars x.bounds ≡ Some m) (sym at) em))
 
   -- ---- claims
 

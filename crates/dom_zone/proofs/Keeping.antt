@@ -1,6 +1,7 @@
 -- Kept bounds, as lists.
 use Rattle.std.proofs.Common.{◌≡◌, ◌≢◌, ◌⊎◌, inl, inr, ⊎_elim, ◌≤◌, ◌<◌, ◌^◌, ℕ, suc, ℤ, ◌≤ℤ◌, ◌<ℤ◌, Bool, true, false, cond, List, length, get_or, Option, Some, None, refl, sym, ap, subst, subst₂, ◌∙◌, arith}
 use Rattle.std.specs.Prelude.{int_le, Result, Ok, Err, IfOk}
+use Rattle.std.specs.Option.{unwrap_or}
 use Rattle.std.proofs.lemmas.Int.{ints}
 use Rattle.prog_theory.specs.States.{State}
 use Rattle.zone_theory.specs.Bounds.{Bound, IsAtMost}
@@ -13,7 +14,7 @@ use Rattle.zone_theory.proofs.Widening.{kept-set}
 use Rattle.zone_tables.specs.Tables.{IsTable, AreMade}
 use Rattle.zone_tables.specs.Sizes.{IsWithin, AreWithin}
 use Rattle.zone_tables.specs.Kept.{remaining}
-use Rattle.dom_zone.specs.Zones.{matrix_in, matrix_if}
+use Rattle.zone_lists.specs.Zones.{matrix_in, matrix_if}
 use Rattle.dom_zone.specs.Values.{IsSmallTable, AreKept, AreKeptIf}
 use Rattle.dom_zone.specs.Widened.{IsBasis, IsLeft}
 use Rattle.zone_tables.proofs.Lists.{made-table, made-pair}
@@ -84,19 +85,12 @@ left-again vars bounds kept reached left one two made = record {
 }
 
 -- as what comes of a call that may want memory
-pub left-first-if : {E : Type 0} (vars : ℕ) (bounds reached one two : List Bound) (kept : Option (List Bound))
-    (r : Result (List Bound) E) → IsSmallTable vars bounds → IsSmallTable vars reached → kept ≡ None → one ≡ bounds
-    → two ≡ reached → IfOk r (λ t. AreMade remaining one two t) → IfOk r (λ t. IsLeft vars bounds kept reached t)
-left-first-if vars bounds reached one two kept (Ok t) a b none oe te made =
-    subst (λ k. IsLeft vars bounds k reached t) (sym none) (left-first vars bounds reached t a b
-    (subst₂ (λ x y. AreMade remaining x y t) oe te made))
-left-first-if vars bounds reached one two kept (Err e) a b none oe te made = tt
-
-pub left-again-if : {E : Type 0} (vars : ℕ) (bounds keeps reached one two : List Bound) (kept : Option (List Bound))
-    (r : Result (List Bound) E) → AreKeptIf vars (Some bounds) kept → IsSmallTable vars reached → kept ≡ Some keeps
-    → one ≡ keeps → two ≡ reached → IfOk r (λ t. AreMade remaining one two t)
+pub left-if : {E : Type 0} (vars : ℕ) (bounds reached one two : List Bound) (kept : Option (List Bound))
+    (r : Result (List Bound) E) → IsSmallTable vars bounds → AreKeptIf vars (Some bounds) kept → IsSmallTable vars reached
+    → one ≡ unwrap_or kept bounds → two ≡ reached → IfOk r (λ t. AreMade remaining one two t)
     → IfOk r (λ t. IsLeft vars bounds kept reached t)
-left-again-if vars bounds keeps reached one two kept (Ok t) a b some oe te made =
-    subst (λ k. IsLeft vars bounds k reached t) (sym some) (left-again vars bounds keeps reached t
-    (subst (AreKeptIf vars (Some bounds)) some a) b (subst₂ (λ x y. AreMade remaining x y t) oe te made))
-left-again-if vars bounds keeps reached one two kept (Err e) a b some oe te made = tt
+left-if vars bounds reached one two None (Ok t) a k b oe te made =
+    left-first vars bounds reached t a b (subst₂ (λ x y. AreMade remaining x y t) oe te made)
+left-if vars bounds reached one two (Some keeps) (Ok t) a k b oe te made =
+    left-again vars bounds keeps reached t k b (subst₂ (λ x y. AreMade remaining x y t) oe te made)
+left-if vars bounds reached one two kept (Err e) a k b oe te made = tt

@@ -13,7 +13,7 @@ use Rattle.zone_tables.specs.Tables.{cell_at, matrix_of, IsTable}
 use Rattle.zone_tables.specs.Sizes.{IsBetween, IsWithin, AreWithin}
 use Rattle.zone_tables.specs.Large.{IsLarge, HasLarge}
 use Rattle.zone_tables.proofs.Judged.{within-not_large}
-use Rattle.dom_zone.specs.Zones.{matrix_in}
+use Rattle.zone_lists.specs.Zones.{matrix_in}
 use Rattle.zone_tables.proofs.Lists.{IsPlace, place-of, matrix-pair, matrix-normal}
 
 -- a large bound is a number

@@ -5,3 +5,4 @@ pub mod Views
 pub mod Moves
 pub mod Keeping
 pub mod Calls
+pub mod Listing

@@ -24,7 +24,7 @@ use Rattle.zone_theory.proofs.Joining.{joined-left, joined-right, joined-least, 
 use Rattle.zone_theory.proofs.Images.{skips-image, sets-image, havocs-image, guards-image, guards-none}
 use Rattle.zone_tables.specs.Tables.{matrix_of, table_of, IsTable, AreMade}
 use Rattle.zone_tables.specs.Sizes.{IsBetween}
-use Rattle.dom_zone.specs.Zones.{matrix_in, matrix_if}
+use Rattle.zone_lists.specs.Zones.{matrix_in, matrix_if}
 use Rattle.dom_zone.specs.Values.{IsClosedTable, IsSmallTable, IsSmallIf, IsMoved, IsMet}
 use Rattle.zone_tables.proofs.Lists.{table-is, table-pair, made-table, made-pair}
 

@@ -21,7 +21,7 @@ use Rattle.zone_theory.specs.Relations.{IsTooLarge}
 use Rattle.zone_theory.proofs.DomainLaws.{applied-one, joined-one, widened-one}
 use Rattle.zone_tables.specs.Tables.{IsTable}
 use Rattle.zone_tables.specs.Sizes.{AreWithin}
-use Rattle.dom_zone.specs.Zones.{ZoneList, IsListed, IsTableIf, matrix_in, matrix_if, zone_of, zone_lists}
+use Rattle.zone_lists.specs.Zones.{ZoneList, IsListed, IsTableIf, matrix_in, matrix_if, zone_of, zone_lists}
 use Rattle.dom_zone.specs.Values.{IsClosedTable, IsClosedIf, IsMoved, IsMet}
 use Rattle.dom_zone.specs.Answers.{HasLargeIf, AreSmallIf, IsFitted, IsFittedWith}
 use Rattle.zone_tables.proofs.Lists.{matrix-normal}

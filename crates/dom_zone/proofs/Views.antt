@@ -18,7 +18,7 @@ use Rattle.zone_theory.proofs.Including.{included, included-from}
 use Rattle.zone_tables.specs.Tables.{matrix_of, IsTable}
 use Rattle.zone_tables.specs.Sizes.{AreWithin, IsWithin}
 use Rattle.zone_tables.specs.Kept.{IsBelow}
-use Rattle.dom_zone.specs.Zones.{ZoneList, matrix_in, matrix_if, zone_of, empty, whole}
+use Rattle.zone_lists.specs.Zones.{ZoneList, matrix_in, matrix_if, zone_of, empty, whole}
 use Rattle.dom_zone.specs.Values.{IsClosedTable, IsClosedIf, IsSmallTable, IsSmallIf, AreKept, AreKeptIf, IsSound}
 use Rattle.dom_zone.specs.Answers.{AreSmallIf}
 use Rattle.zone_tables.specs.Passes.{IsClosing}

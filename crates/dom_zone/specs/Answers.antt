@@ -6,7 +6,7 @@ use Rattle.dom_core.specs.declared.error.DomErr.{DomErr}
 use Rattle.dom_core.specs.declared.error.DomErr.TheVariants.{Limit, Range, NoMemory}
 use Rattle.zone_tables.specs.Sizes.{AreWithin}
 use Rattle.zone_tables.specs.Large.{HasLarge}
-use Rattle.dom_zone.specs.Zones.{ZoneList}
+use Rattle.zone_lists.specs.Zones.{ZoneList}
 
 abbrev pub HasLargeIf : Option (List Bound) → Type 0
 HasLargeIf None = ⊥

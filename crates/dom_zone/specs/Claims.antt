@@ -6,7 +6,7 @@ use Rattle.prog_theory.specs.Fits.{FitsTerm}
 use Rattle.prog_theory.specs.Within.{IsNumberWithin}
 use Rattle.zone_theory.specs.Matrices.{Matrix, InZone}
 use Rattle.zone_theory.specs.Claims.{IsProved}
-use Rattle.dom_zone.specs.Zones.{ZoneList, matrix_if}
+use Rattle.zone_lists.specs.Zones.{ZoneList, matrix_if}
 
 abbrev pub judges : Claim → Type 0
 judges claim = Unit {0}

@@ -1,6 +1,4 @@
-pub mod Zones
 pub mod Values
 pub mod Answers
 pub mod Widened
 pub mod Claims
-pub mod Laws

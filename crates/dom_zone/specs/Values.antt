@@ -7,7 +7,7 @@ use Rattle.zone_theory.specs.Closed.{IsClosed}
 use Rattle.zone_theory.specs.Zones.{IsImage, IsJoin}
 use Rattle.zone_tables.specs.Tables.{IsTable}
 use Rattle.zone_tables.specs.Sizes.{AreWithin}
-use Rattle.dom_zone.specs.Zones.{matrix_in, matrix_if}
+use Rattle.zone_lists.specs.Zones.{matrix_in, matrix_if}
 
 -- the list of a closed matrix
 pub record IsClosedTable (vars : ℕ) (bounds : List Bound) : Type 0 where

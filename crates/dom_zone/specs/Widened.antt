@@ -9,7 +9,7 @@ use Rattle.dom_core.specs.declared.error.DomErr.{DomErr}
 use Rattle.dom_core.specs.declared.error.DomErr.TheVariants.{NoMemory}
 use Rattle.zone_tables.specs.Tables.{IsTable}
 use Rattle.zone_tables.specs.Sizes.{AreWithin}
-use Rattle.dom_zone.specs.Zones.{ZoneList, matrix_in, matrix_if}
+use Rattle.zone_lists.specs.Zones.{ZoneList, matrix_in, matrix_if}
 use Rattle.zone_tables.specs.Passes.{IsClosing}
 use Rattle.dom_zone.specs.Answers.{IsFittedWith}
 

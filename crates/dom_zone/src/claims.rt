@@ -7,7 +7,7 @@ ghost use Rattle.prog_tree.specs.Claims.{claim_of};
 ghost use Rattle.dom_core.specs.Claims.{FitsClaim};
 ghost use Rattle.prog_tree.specs.Words.{word_of};
 ghost use Rattle.zone_theory.specs.Claims.{Below, SideBelow, Compared};
-ghost use Rattle.dom_zone.specs.Zones.{matrix_in};
+ghost use Rattle.zone_lists.specs.Zones.{matrix_in};
 ghost use Rattle.dom_zone.specs.Values.{IsSmallTable};
 ghost use Rattle.dom_zone.specs.Claims.{AtEach, is_proven, AreTerms};
 

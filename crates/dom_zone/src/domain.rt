@@ -6,8 +6,8 @@ use prog_tree::Claim;
 use std::alloc::Global;
 
 impl Domain for ZoneDomain {
-    ghost use Rattle.dom_zone.specs.Zones.{zone_lists};
-    ghost use Rattle.dom_zone.specs.Laws.{zone_lists_laws};
+    ghost use Rattle.zone_lists.specs.Zones.{zone_lists};
+    ghost use Rattle.zone_lists.proofs.Laws.{zone_lists_laws};
     ghost use Rattle.dom_zone.specs.Claims.{judges, is_proven};
 
     ghost relations = { zone_lists };

@@ -9,7 +9,7 @@ ghost use Rattle.zone_theory.specs.Limits as limits;
 ghost use Rattle.zone_theory.specs.Embedding.{inequality, system};
 ghost use Rattle.zone_theory.specs.Domain.{HasState};
 ghost use Rattle.zone_tables.specs.Sizes.{IsBetween};
-ghost use Rattle.dom_zone.specs.Zones.{matrix_in, matrix_if, zone_of, empty};
+ghost use Rattle.zone_lists.specs.Zones.{matrix_in, matrix_if, zone_of, empty};
 ghost use Rattle.dom_zone.specs.Values.{IsSmallTable};
 
 use crate::value::{ZoneDomain, number_at};

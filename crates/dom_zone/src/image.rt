@@ -11,7 +11,7 @@ ghost use Rattle.dom_theory.specs.Relations.{Apply, Join};
 ghost use Rattle.dom_core.specs.Answers.{IsAnswer};
 ghost use Rattle.zone_tables.specs.Sizes.{IsBetween};
 ghost use Rattle.dom_zone.specs.Values.{IsSmallTable, IsSmallIf, IsMoved, IsMet};
-ghost use Rattle.dom_zone.specs.Zones.{matrix_in, matrix_if, zone_lists};
+ghost use Rattle.zone_lists.specs.Zones.{matrix_in, matrix_if, zone_lists};
 
 use crate::value::ZoneDomain;
 use dom_core::DomErr;
@@ -120,7 +120,7 @@ impl ZoneDomain {
         ensures { IsAnswer zone_lists (Apply (op_of op.now) self.now) result }
     {
         match &self.bounds {
-            None => ZoneDomain::fitted(self.vars, None),
+            None => Ok(ZoneDomain::bottom(self.vars)),
             Some(bounds) => match moved(alloc, bounds.as_slice(), self.vars as usize, op) {
                 Ok(made) => ZoneDomain::fitted(self.vars, made),
                 Err(_) => Err(DomErr::NoMemory),

@@ -1,9 +1,10 @@
 //! The widening, which keeps bounds and never closes them before it keeps them again.
 ghost use Rattle.std.specs.Prelude.{◌≡◌, ◌≤◌, Some, IfOk};
+ghost use Rattle.std.specs.Option.{unwrap_or};
 ghost use Rattle.zone_theory.specs.Domain.{Within};
 ghost use Rattle.dom_theory.specs.Relations.{Widen};
 ghost use Rattle.dom_core.specs.Answers.{IsAnswer};
-ghost use Rattle.dom_zone.specs.Zones.{zone_of, zone_lists, empty};
+ghost use Rattle.zone_lists.specs.Zones.{zone_of, zone_lists, empty};
 ghost use Rattle.dom_zone.specs.Values.{IsSmallTable, AreKeptIf};
 ghost use Rattle.dom_zone.specs.Widened.{IsBasis, IsLeft, IsSolved};
 
@@ -14,7 +15,17 @@ use zone_tables::{Table, closed_table, kept_table};
 
 type NoMemory = AllocError;
 
-// The bounds that stay: of the kept ones, or at the first widening of the matrix, those that hold on the zone reached.
+// The bounds that a widening begins with: the kept ones, and at the first widening those of the matrix.
+fn first_bounds<'a>(bounds: &'a Table, kept: &'a Option<Table>) -> &'a Table
+    ensures { result.now ≡ unwrap_or kept.now bounds.now }
+{
+    match kept {
+        None => bounds,
+        Some(kept) => kept,
+    }
+}
+
+// Of these those that hold on the zone reached.
 fn left_bounds(
     alloc: Global,
     bounds: &Table,
@@ -28,10 +39,8 @@ fn left_bounds(
     requires reached { IsSmallTable vars reached.now }
     ensures { IfOk result (λ left. IsLeft vars bounds.now kept.now reached.now left) }
 {
-    match kept {
-        None => kept_table(alloc, bounds.as_slice(), reached.as_slice()),
-        Some(kept) => kept_table(alloc, kept.as_slice(), reached.as_slice()),
-    }
+    let first = first_bounds(bounds, kept);
+    kept_table(alloc, first.as_slice(), reached.as_slice())
 }
 
 // The zone of the bounds, which are kept.
@@ -55,9 +64,9 @@ impl ZoneDomain {
         ensures { IsAnswer zone_lists (Widen self.now next.now) result }
     {
         match &self.bounds {
-            None => ZoneDomain::fitted(self.vars, None),
+            None => Ok(ZoneDomain::bottom(self.vars)),
             Some(bounds) => match &next.bounds {
-                None => ZoneDomain::fitted(self.vars, None),
+                None => Ok(ZoneDomain::bottom(self.vars)),
                 Some(reached) => {
                     match left_bounds(alloc, bounds, &self.kept, reached, self.vars as usize) {
                         Ok(kept) => solved(alloc, self.vars, kept),

@@ -1,5 +1,5 @@
 use Rattle.prog_tree.specs.Terms.{term_of}
-use Rattle.dom_zone.specs.Values.{matrix_in}
+use Rattle.zone_lists.specs.Zones.{matrix_in}
 use Rattle.dom_zone.specs.Claims.{AtEach}
 use Rattle.dom_zone.proofs.Searches.{EachTo}
 use Rattle.dom_zone.proofs.claims.below_each.Given as goal

@@ -1,5 +1,5 @@
 use Rattle.std.specs.Prelude.{Any}
-use Rattle.dom_zone.specs.Values.{matrix_in}
+use Rattle.zone_lists.specs.Zones.{matrix_in}
 use Rattle.dom_zone.specs.Claims.{AtEach}
 use Rattle.dom_zone.proofs.Searches.{EachTo}
 use Rattle.dom_zone.proofs.claims.each_below_one.Given as goal

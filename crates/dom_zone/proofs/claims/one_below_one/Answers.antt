@@ -1,7 +1,7 @@
 use Rattle.std.proofs.Common.{sym, ◌∙◌, true≢false, arith}
 use Rattle.std.specs.Prelude.{All, Any}
 use Rattle.prog_tree.specs.Terms.{term_of}
-use Rattle.dom_zone.specs.Zones.{matrix_in}
+use Rattle.zone_lists.specs.Zones.{matrix_in}
 use Rattle.dom_zone.specs.Claims.{AtEach}
 use Rattle.dom_zone.proofs.Searches.{none-more, none-found}
 use Rattle.dom_zone.proofs.claims.one_below_one.Goals as goal

@@ -1,6 +1,6 @@
 use Rattle.std.proofs.Common.{arith}
 use Rattle.std.proofs.lemmas.Int.{ints}
-use Rattle.dom_zone.specs.Zones.{matrix_in}
+use Rattle.zone_lists.specs.Zones.{matrix_in}
 use Rattle.dom_zone.proofs.Moves.{read-in, admits-not}
 use Rattle.dom_zone.proofs.image.is_admitted.Goals as goal
 

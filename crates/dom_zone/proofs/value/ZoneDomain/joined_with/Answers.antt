@@ -1,5 +1,5 @@
 use Rattle.std.proofs.Common.{sym, ap, ◌∙◌}
-use Rattle.dom_zone.specs.Zones.{ZoneList}
+use Rattle.zone_lists.specs.Zones.{ZoneList}
 use Rattle.dom_zone.proofs.Calls.{join-made}
 use Rattle.dom_zone.proofs.value.ZoneDomain.joined_with.Goals as goal
 
