@@ -201,6 +201,7 @@ impl ZoneDomain {
     pub fn vars(&self) -> u32
         ensures value { result ≡ self.now.vars }
         ensures few { result ≤ 63 }
+        ensures keeps { IsSound self.now.vars self.now.bounds self.now.kept }
     {
         self.vars
     }

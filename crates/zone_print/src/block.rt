@@ -1,10 +1,11 @@
 //! The lines of a point.
-ghost use Rattle.std.specs.Prelude.{◌≡◌, ◌≤◌, ◌++◌, length, suc, IfOk, OnOk};
+ghost use Rattle.std.specs.Prelude.{◌≡◌, ◌≤◌, ◌++◌, length, suc, Some, IfOk, OnOk};
+ghost use Rattle.zone_theory.specs.Matrices.{Matrix};
 ghost use Rattle.zone_theory.specs.Limits.{number, row, limits};
 ghost use Rattle.report_texts.specs.Printed.{lines_text};
-ghost use Rattle.dom_zone.specs.Zones.{empty};
+ghost use Rattle.zone_lists.specs.Zones.{matrix_if, zone_of, empty};
 ghost use Rattle.zone_print.specs.Blocks.{limit_text};
-ghost use Rattle.zone_print.specs.Given.{given, block_of};
+ghost use Rattle.zone_print.specs.Reports.{zone_block};
 
 use crate::NoMemory;
 use crate::limits::push_limit;
@@ -25,8 +26,8 @@ fn push_bound(
     requires vars { zone.now.vars ≡ length names.now }
     requires row { i ≤ zone.now.vars }
     requires column { j ≤ zone.now.vars }
-    ensures { OnOk result (text.new.items ≡ text.old.items ++ lines_text (limit_text names.now)
-        (number i j (given zone.now.vars zone.now.bounds i j))) }
+    ensures { (m : Matrix) → matrix_if zone.now.vars zone.now.bounds ≡ Some m →
+        OnOk result (text.new.items ≡ text.old.items ++ lines_text (limit_text names.now) (number i j (m i j))) }
 {
     if i == j {
         return Ok(());
@@ -47,8 +48,9 @@ fn push_row(
     requires some { ¬ zone.now ≡ empty zone.now.vars }
     requires vars { zone.now.vars ≡ length names.now }
     requires row { i ≤ zone.now.vars }
-    ensures { OnOk result (text.new.items ≡ text.old.items ++ lines_text (limit_text names.now)
-        (row (given zone.now.vars zone.now.bounds) i (suc zone.now.vars))) }
+    ensures { (m : Matrix) → matrix_if zone.now.vars zone.now.bounds ≡ Some m →
+        OnOk result (text.new.items ≡ text.old.items
+        ++ lines_text (limit_text names.now) (row m i (suc zone.now.vars))) }
 {
     let side = zone.vars() + 1;
     for j in 0..side {
@@ -61,8 +63,9 @@ fn push_row(
 fn push_bounds(text: &mut Vec<u8>, names: &Names, zone: &ZoneDomain) -> Result<(), NoMemory>
     requires some { ¬ zone.now ≡ empty zone.now.vars }
     requires vars { zone.now.vars ≡ length names.now }
-    ensures { OnOk result (text.new.items ≡ text.old.items ++ lines_text (limit_text names.now)
-        (limits zone.now.vars (given zone.now.vars zone.now.bounds))) }
+    ensures { (m : Matrix) → matrix_if zone.now.vars zone.now.bounds ≡ Some m →
+        OnOk result (text.new.items ≡ text.old.items
+        ++ lines_text (limit_text names.now) (limits zone.now.vars m)) }
 {
     let side = zone.vars() + 1;
     for i in 0..side {
@@ -74,13 +77,14 @@ fn push_bounds(text: &mut Vec<u8>, names: &Names, zone: &ZoneDomain) -> Result<(
 /// The lines of a point with this zone.
 pub(crate) fn block(alloc: Global, names: &Names, zone: &ZoneDomain) -> Result<Vec<u8>, NoMemory>
     requires { zone.now.vars ≡ length names.now }
-    ensures { IfOk result (λ text. text.items ≡ block_of names.now zone.now) }
+    ensures { IfOk result (λ text. text.items ≡ zone_block names.now (zone_of zone.now)) }
 {
+    let _vars = zone.vars();
     let mut text = Vec::new(alloc);
     if zone.is_bottom() {
         text.extend_from_slice(b"unreachable\n")?;
-    } else {
-        push_bounds(&mut text, names, zone)?;
+        return Ok(text);
     }
+    push_bounds(&mut text, names, zone)?;
     Ok(text)
 }

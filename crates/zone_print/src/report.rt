@@ -3,10 +3,9 @@ ghost use Rattle.std.specs.Prelude.{◌≡◌, All, map, length, IfOk};
 ghost use Rattle.prog_theory.specs.ControlGraphs.{graph_of};
 ghost use Rattle.prog_theory.specs.Graph.{points};
 ghost use Rattle.prog_theory.specs.Named.{nameless};
-ghost use Rattle.dom_zone.specs.Zones.{zone_of};
+ghost use Rattle.zone_lists.specs.Zones.{zone_of};
 ghost use Rattle.short_print.specs.Blocks.{texts_of};
-ghost use Rattle.zone_print.specs.Given.{block_of};
-ghost use Rattle.zone_print.specs.Reports.{IsZoneReport};
+ghost use Rattle.zone_print.specs.Reports.{zone_block, IsZoneReport};
 
 use crate::NoMemory;
 use crate::block::block;
@@ -21,7 +20,7 @@ use trop_text::Names;
 // The lines of each point.
 fn blocks(alloc: Global, names: &Names, parts: &[ZoneDomain]) -> Result<Vec<Vec<u8>>, NoMemory>
     requires { All (λ x. x.vars ≡ length names.now) parts.now }
-    ensures { IfOk result (λ blocks. texts_of blocks.items ≡ map (block_of names.now) parts.now) }
+    ensures { IfOk result (λ blocks. texts_of blocks.items ≡ map (zone_block names.now) (map zone_of parts.now)) }
 {
     let mut out = Vec::new(alloc);
     for part in parts {
