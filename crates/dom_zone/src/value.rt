@@ -8,7 +8,7 @@ ghost use Rattle.zone_theory.specs.Width.{numbers};
 ghost use Rattle.zone_tables.specs.Passes.{IsClosing};
 ghost use Rattle.zone_tables.specs.Sizes.{IsWithin};
 ghost use Rattle.zone_lists.specs.Zones.{matrix_in, matrix_if, zone_of, empty, whole};
-ghost use Rattle.dom_zone.specs.Values.{IsClosedIf, IsSmallTable};
+ghost use Rattle.dom_zone.specs.Values.{IsClosedIf, IsSmallTable, IsSound};
 ghost use Rattle.dom_zone.specs.Widened.{IsBasis};
 ghost use Rattle.dom_zone.specs.Answers.{HasLargeIf, AreSmallIf, IsFitted, IsFittedWith};
 
