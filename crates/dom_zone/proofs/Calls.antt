@@ -114,9 +114,6 @@ widen-by_empty n c keeps x next none e leaves = subst (λ y. (Within (zone_of y)
 
 -- ---- bounds
 
-some-is : (m u : Matrix) → ◌≡◌ {A = Option Matrix} (Some m) (Some u) → m ≡ u
-some-is m u e = cc
-
 module _ (vars : ℕ) (b kept : Option (List Bound)) (bounds : List Bound) (x : ZoneList) (some : b ≡ Some bounds)
     (e : list vars b kept ≡ x) where
   at : list vars (Some bounds) kept ≡ x
@@ -127,11 +124,6 @@ module _ (vars : ℕ) (b kept : Option (List Bound)) (bounds : List Bound) (x : 
   bound-greatest small i j hi hj ne r is = subst (IsGreatest (HasState (zone_of x)) i j) (sym is)
       (subst (λ x. i ≤ x.vars → j ≤ x.vars → IsGreatest (HasState (zone_of x)) i j (matrix_in vars bounds i j)) at
       (λ hi hj. small.closed.closed.greatest i j hi hj ne) hi hj)
-
-  pub bound-matrix : (i j : ℕ) → (r : Bound) → r ≡ matrix_in vars bounds i j → (m : Matrix)
-      → matrix_if x.vars x.bounds ≡ Some m → r ≡ m i j
-  bound-matrix i j r is m em = is ∙ ap (λ (m : Matrix). m i j) (some-is (matrix_in vars bounds) m
-      (subst (λ (x : ZoneList). matrix_if x.vars x.bounds ≡ Some m) (sym at) em))
 
   -- ---- claims
 

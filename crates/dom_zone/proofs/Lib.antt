@@ -6,3 +6,4 @@ pub mod Moves
 pub mod Keeping
 pub mod Calls
 pub mod Listing
+pub mod Embedded

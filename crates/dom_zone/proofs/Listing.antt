@@ -7,20 +7,21 @@ use Rattle.zone_theory.specs.Matrices.{Matrix}
 use Rattle.zone_theory.specs.Limits.{Limit, number, row, rows}
 use Rattle.zone_theory.proofs.Entries.{eqb_same, eqb_apart}
 
+abbrev one : ℕ → ℕ → ℤ → List Limit
+one i j c = record { high = i; low = j; most = c } ∷ []
+
 pub number-same : (i : ℕ) (b : Bound) → number i i b ≡ []
 number-same i None = refl
-number-same i (Some c) =
-    ap (λ t. cond t [] (◌∷◌ {A = Limit} (record { high = i; low = i; most = c }) [])) (eqb_same i)
+number-same i (Some c) = ap (λ t. cond t [] (one i i c)) (eqb_same i)
 
 pub number-apart : (i j : ℕ) (c : ℤ) → i ≢ j → number i j (Some c) ≡ record { high = i; low = j; most = c } ∷ []
-number-apart i j c n =
-    ap (λ t. cond t [] (◌∷◌ {A = Limit} (record { high = i; low = j; most = c }) [])) (eqb_apart i j n)
+number-apart i j c n = ap (λ t. cond t [] (one i j c)) (eqb_apart i j n)
 
 length-number : (i j : ℕ) (b : Bound) → length (number i j b) ≤ 1
 length-number i j None = omega arith
 length-number i j (Some c) = go (eqb i j)
   where
-    go : (t : Bool) → length (cond t [] (◌∷◌ {A = Limit} (record { high = i; low = j; most = c }) [])) ≤ 1
+    go : (t : Bool) → length (cond t [] (one i j c)) ≤ 1
     go true = omega arith
     go false = omega arith
 
@@ -30,8 +31,7 @@ length-row m i (suc n) = omega (arith, length-append (row m i n) (number i n (m 
 
 length-rows : (m : Matrix) (n k : ℕ) → length (rows m n k) ≤ k * n
 length-rows m n zero = omega arith
-length-rows m n (suc k) = let e : suc k * n ≡ n + k * n = refl in
-    omega (arith, e, length-append (rows m n k) (row m k n), length-rows m n k, length-row m k n)
+length-rows m n (suc k) = omega (arith, length-append (rows m n k) (row m k n), length-rows m n k, length-row m k n)
 
 module _ {X : Type 0} (f : Limit → X) (m : Matrix) where
   pub row-none : (i : ℕ) (start : List X) → start ≡ start ++ map f (row m i 0)

@@ -95,6 +95,42 @@ module _ (vars : ℕ) (bounds : List Bound) (small : IsSmallTable vars bounds) w
         (admits-decided (matrix_in vars bounds) l.coord r.coord (r.add -ℤ l.add));
   }
 
+-- as code makes them: for one coordinate more than there are variables
+module _ (vars n : ℕ) (bounds : List Bound) (small : IsSmallTable vars bounds) (side : n ≡ suc vars) where
+  table-for : (f : Matrix → Matrix) (table : List Bound) → table ≡ table_of n (f (matrix_of n bounds))
+      → table_of (suc vars) (f (matrix_in vars bounds)) ≡ table
+  table-for f table is = sym (is ∙ ap (λ k. table_of k (f (matrix_of k bounds))) side)
+
+  pub set-made : (op : Op) (v : ℕ) (r : Term) (c : ℤ) (table : List Bound) → Sets v r ≡ op → c ≡ r.add → FitsOp vars op
+      → table ≡ table_of n (assigned (matrix_of n bounds) v r.coord c)
+      → IsMoved vars op (Some (matrix_in vars bounds)) (Some table)
+  set-made op v r c table e ce on is = subst (λ op. FitsOp vars op → IsMoved vars op (Some (matrix_in vars bounds)) (Some table)) e
+      (λ on. subst (λ t. IsMoved vars (Sets v r) (Some (matrix_in vars bounds)) (Some t))
+      (table-for (λ m. assigned m v r.coord r.add) table
+      (is ∙ ap (λ c. table_of n (assigned (matrix_of n bounds) v r.coord c)) ce))
+      (set-moved vars bounds small v r on)) on
+
+  pub havoc-made : (op : Op) (v : ℕ) (table : List Bound) → Havocs v ≡ op → FitsOp vars op
+      → table ≡ table_of n (forgotten (matrix_of n bounds) v) → IsMoved vars op (Some (matrix_in vars bounds)) (Some table)
+  havoc-made op v table e on is = subst (λ op. FitsOp vars op → IsMoved vars op (Some (matrix_in vars bounds)) (Some table)) e
+      (λ on. subst (λ t. IsMoved vars (Havocs v) (Some (matrix_in vars bounds)) (Some t))
+      (table-for (λ m. forgotten m v) table is) (havoc-moved vars bounds small v on)) on
+
+  module _ (l r : Term) (most : ℤ) (number : most ≡ r.add -ℤ l.add) (on : FitsOp vars (Guards l r)) (yes : Bool)
+      (told : IsTrue yes ↔ Admits (matrix_in vars bounds) l.coord r.coord most) where
+    pub guard-refused : yes ≡ false → IsMoved vars (Guards l r) (Some (matrix_in vars bounds)) None
+    guard-refused fails = guard-none vars bounds small l r on
+        (λ a. true≢false (sym (told.1 (subst (Admits (matrix_in vars bounds) l.coord r.coord) (sym number) a)) ∙ fails))
+
+    pub guard-made : yes ≡ true → (table : List Bound)
+        → table ≡ table_of n (added (matrix_of n bounds) l.coord r.coord most)
+        → IsMoved vars (Guards l r) (Some (matrix_in vars bounds)) (Some table)
+    guard-made is table made = subst (λ t. IsMoved vars (Guards l r) (Some (matrix_in vars bounds)) (Some t))
+        (table-for (λ m. added m l.coord r.coord (r.add -ℤ l.add)) table
+        (made ∙ ap (λ c. table_of n (added (matrix_of n bounds) l.coord r.coord c)) number))
+        (guard-moved vars bounds small l r on
+        (subst (Admits (matrix_in vars bounds) l.coord r.coord) number (told.0 is)))
+
 -- a bound that was read of a list for one coordinate more than there are variables
 pub read-in : (vars : ℕ) (bounds : List Bound) (i j : ℕ) (b : Bound) → b ≡ entry (matrix_of (vars + 1) bounds) i j
     → b ≡ entry (matrix_in vars bounds) i j

@@ -1,5 +1,5 @@
 -- What values of the code are as zones.
-use Rattle.std.proofs.Common.{◌≡◌, ◌≢◌, ⊎_elim, ◌≤◌, ◌<◌, ◌+◌, ◌*◌, ◌^◌, ℕ, zero, suc, ℤ, true, false, List, length, get_or, replicate, Option, Some, None, refl, sym, ap, subst, ◌∙◌, true≢false, arith}
+use Rattle.std.proofs.Common.{◌≡◌, ◌≢◌, ⊎_elim, ◌≤◌, ◌<◌, ◌+◌, ◌*◌, ◌^◌, ℕ, zero, suc, ℤ, Bool, true, false, List, length, get_or, replicate, Option, Some, None, refl, sym, ap, subst, subst₂, ◌∙◌, true≢false, arith}
 use Rattle.std.specs.Prelude.{◌↔◌, IsTrue}
 use Rattle.std.proofs.lemmas.Bool.{cases_lt}
 use Rattle.std.proofs.lemmas.Int.{ints}
@@ -159,3 +159,38 @@ within-both vars other bounds others kept others_kept e one two =
     subst (λ d. IsSmallTable d others → ((k : ℕ) → k < length bounds → IsBelow (get_or bounds k None) (get_or others k None))
     ↔ Within (zone_of (list vars (Some bounds) kept)) (zone_of (list d (Some others) others_kept))) e
     (λ small. (stronger-within vars bounds others one small, within-stronger vars bounds others one small)) two
+
+-- ---- the values of two calls
+
+vars-same : (vars n : ℕ) (b kept c keeps : Option (List Bound)) (x y : ZoneList) → list vars b kept ≡ x
+    → list n c keeps ≡ y → x.vars ≡ y.vars → vars ≡ n
+vars-same vars n b kept c keeps x y e g h = ap (λ (z : ZoneList). z.vars) e ∙ h ∙ sym (ap (λ (z : ZoneList). z.vars) g)
+
+pub none-lies : (vars n : ℕ) (b kept c keeps : Option (List Bound)) (bounds : List Bound) (x y : ZoneList)
+    → b ≡ Some bounds → c ≡ None → list vars b kept ≡ x → list n c keeps ≡ y → IsSound vars b kept
+    → IsTrue false ↔ Within (zone_of x) (zone_of y)
+none-lies vars n b kept c keeps bounds x y some none e g sound =
+    subst₂ (λ x y. IsTrue false ↔ Within (zone_of x) (zone_of y)) (ap (λ b. list vars b kept) (sym some) ∙ e)
+    (ap (λ c. list n c keeps) (sym none) ∙ g) (
+      λ f. absurd (true≢false (sym f)),
+      λ w. absurd (within-empty vars n bounds kept keeps (subst (IsSmallIf vars) some sound.small) w),
+    )
+
+pub both-lie : (vars n : ℕ) (b kept c keeps : Option (List Bound)) (bounds others one two : List Bound) (x y : ZoneList)
+    (r : Bool) → b ≡ Some bounds → c ≡ Some others → list vars b kept ≡ x → list n c keeps ≡ y → IsSound vars b kept
+    → IsSound n c keeps → x.vars ≡ y.vars → one ≡ bounds → two ≡ others
+    → (IsTrue r ↔ ((k : ℕ) → k < length one → IsBelow (get_or one k None) (get_or two k None)))
+    → IsTrue r ↔ Within (zone_of x) (zone_of y)
+both-lie vars n b kept c keeps bounds others one two x y r some other e g sound sounds same oe te h =
+    subst₂ (λ x y. IsTrue r ↔ Within (zone_of x) (zone_of y)) (ap (λ b. list vars b kept) (sym some) ∙ e)
+    (ap (λ c. list n c keeps) (sym other) ∙ g) (λ t. w.0 (k.0 t), λ t. k.1 (w.1 t))
+  where
+    stronger : List Bound → List Bound → Type 0
+    stronger bs os = (k : ℕ) → k < length bs → IsBelow (get_or bs k None) (get_or os k None)
+
+    k : IsTrue r ↔ stronger bounds others
+    k = subst₂ (λ bs os. IsTrue r ↔ stronger bs os) oe te h
+
+    w : stronger bounds others ↔ Within (zone_of (list vars (Some bounds) kept)) (zone_of (list n (Some others) keeps))
+    w = within-both vars n bounds others kept keeps (vars-same vars n b kept c keeps x y e g same)
+        (subst (IsSmallIf vars) some sound.small) (subst (IsSmallIf n) other sounds.small)

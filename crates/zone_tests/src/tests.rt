@@ -1,4 +1,5 @@
 // Tests by tables.
 mod analyses;
 mod bounds;
+mod inequalities;
 mod reading;
