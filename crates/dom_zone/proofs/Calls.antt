@@ -1,27 +1,24 @@
 -- The calls of the domain, for values of the code: their views are zones.
-use Rattle.std.proofs.Common.{◌≡◌, ◌≢◌, ◌⊎◌, inl, inr, ⊎_elim, ◌≤◌, ◌<◌, ◌^◌, ℕ, suc, ℤ, ◌-ℤ◌, Bool, List, Option, Some, None, refl, sym, ap, subst, subst₂, ◌∙◌, arith}
-use Rattle.std.specs.Prelude.{Result, Ok, Err, ◌↔◌, IsTrue}
-use Rattle.prog_theory.specs.States.{State, Term}
+use Rattle.std.proofs.Common.{◌≡◌, ◌≢◌, ⊎_elim, ◌≤◌, ℕ, ℤ, ◌-ℤ◌, Bool, List, Option, Some, None, refl, sym, ap, subst, subst₂, ◌∙◌}
+use Rattle.std.specs.Prelude.{Result, Ok, ◌↔◌, IsTrue}
+use Rattle.prog_theory.specs.States.{Term}
 use Rattle.prog_theory.specs.Edges.{Op}
 use Rattle.prog_theory.specs.Fits.{FitsOp}
 use Rattle.prog_theory.specs.Statements.{Claim}
 use Rattle.dom_theory.specs.Relations.{Apply, Join, Widen}
 use Rattle.dom_core.specs.declared.error.DomErr.{DomErr}
-use Rattle.dom_core.specs.declared.error.DomErr.TheVariants.{Limit, Range, NoMemory}
 use Rattle.dom_core.specs.Answers.{IsAnswer}
 use Rattle.zone_theory.specs.Bounds.{Bound, IsAtMost}
 use Rattle.zone_theory.specs.Matrices.{Matrix, InZone, entry}
 use Rattle.zone_theory.specs.Closed.{IsGreatest, IsClosed}
-use Rattle.zone_theory.specs.Zones.{Has}
 use Rattle.zone_theory.specs.Widening.{basis}
 use Rattle.zone_theory.specs.Claims.{Compared}
 use Rattle.zone_theory.specs.Domain.{HasState, Within}
-use Rattle.zone_theory.proofs.Entries.{entry-apart}
 use Rattle.zone_theory.proofs.Images.{empty-image}
 use Rattle.zone_theory.proofs.Including.{pair-holds, holds-pair}
 use Rattle.zone_lists.specs.Zones.{ZoneList, matrix_in, matrix_if, zone_of, empty, zone_lists}
-use Rattle.dom_zone.specs.Values.{IsClosedTable, IsSmallTable, IsSmallIf, AreKept, AreKeptIf, IsSound, IsMoved, IsMet}
-use Rattle.dom_zone.specs.Answers.{IsFitted, IsFittedWith}
+use Rattle.dom_zone.specs.Values.{IsSmallTable, IsSmallIf, AreKept, AreKeptIf, IsSound, IsMoved, IsMet}
+use Rattle.dom_zone.specs.Answers.{IsFitted}
 use Rattle.dom_zone.specs.Widened.{IsLeft, IsSolved}
 use Rattle.dom_zone.specs.Claims.{AtEach, is_proven}
 use Rattle.dom_zone.proofs.Results.{moved-answer, met-answer, widened-answer}

@@ -1,20 +1,20 @@
 -- Kept bounds, as lists.
-use Rattle.std.proofs.Common.{◌≡◌, ◌≢◌, ◌⊎◌, inl, inr, ⊎_elim, ◌≤◌, ◌<◌, ◌^◌, ℕ, suc, ℤ, ◌≤ℤ◌, ◌<ℤ◌, Bool, true, false, cond, List, length, get_or, Option, Some, None, refl, sym, ap, subst, subst₂, ◌∙◌, arith}
+use Rattle.std.proofs.Common.{◌≡◌, inl, inr, ⊎_elim, ◌^◌, ℕ, suc, ℤ, ◌≤ℤ◌, ◌<ℤ◌, true, false, cond, List, get_or, Option, Some, None, refl, sym, subst, subst₂, arith}
 use Rattle.std.specs.Prelude.{int_le, Result, Ok, Err, IfOk}
 use Rattle.std.specs.Option.{unwrap_or}
 use Rattle.std.proofs.lemmas.Int.{ints}
 use Rattle.prog_theory.specs.States.{State}
-use Rattle.zone_theory.specs.Bounds.{Bound, IsAtMost}
-use Rattle.zone_theory.specs.Matrices.{Matrix, InZone}
-use Rattle.zone_theory.specs.Closed.{IsGreatest, IsClosed}
-use Rattle.zone_theory.specs.Widening.{Holds, Stays, IsKept, basis}
+use Rattle.zone_theory.specs.Bounds.{Bound}
+use Rattle.zone_theory.specs.Matrices.{InZone}
+use Rattle.zone_theory.specs.Closed.{IsGreatest}
+use Rattle.zone_theory.specs.Widening.{Stays, IsKept}
 use Rattle.zone_theory.proofs.Bounds.{lt_or_le}
 use Rattle.zone_theory.proofs.Closing.{IsGreatest-least, IsGreatest-bounds}
 use Rattle.zone_theory.proofs.Widening.{kept-set}
 use Rattle.zone_tables.specs.Tables.{IsTable, AreMade}
 use Rattle.zone_tables.specs.Sizes.{IsWithin, AreWithin}
 use Rattle.zone_tables.specs.Kept.{remaining}
-use Rattle.zone_lists.specs.Zones.{matrix_in, matrix_if}
+use Rattle.zone_lists.specs.Zones.{matrix_in}
 use Rattle.dom_zone.specs.Values.{IsSmallTable, AreKept, AreKeptIf}
 use Rattle.dom_zone.specs.Widened.{IsBasis, IsLeft}
 use Rattle.zone_tables.proofs.Lists.{made-table, made-pair}

@@ -1,6 +1,5 @@
 -- Lists with a number of too great a size.
-use Rattle.std.proofs.Common.{◌≡◌, ◌≢◌, ⊎_elim, ◌<◌, ◌≤◌, ◌+◌, ◌*◌, ◌^◌, ℕ, suc, ℤ, pos, negsuc, unsigned_abs, List, get_or, Option, Some, None, refl, sym, ap, subst, ◌∙◌, arith}
-use Rattle.std.proofs.lemmas.Int.{ints}
+use Rattle.std.proofs.Common.{◌≡◌, ⊎_elim, ◌<◌, ◌+◌, ◌*◌, ◌^◌, ℕ, suc, ℤ, unsigned_abs, List, get_or, Option, Some, None, refl, sym, ap, subst, ◌∙◌, arith}
 use Rattle.std.proofs.lemmas.Bool.{cases_lt}
 use Rattle.std.proofs.lemmas.List.{get_or_past}
 use Rattle.zone_theory.specs.Bounds.{Bound}
@@ -8,9 +7,9 @@ use Rattle.zone_theory.specs.Matrices.{Matrix}
 use Rattle.zone_theory.specs.Domain.{Zone}
 use Rattle.zone_theory.specs.Relations.{most_bound, IsTooLarge}
 use Rattle.zone_theory.proofs.Entries.{same_or_apart}
-use Rattle.zone_theory.proofs.Normal.{IsPair, pair-decided}
-use Rattle.zone_tables.specs.Tables.{cell_at, matrix_of, IsTable}
-use Rattle.zone_tables.specs.Sizes.{IsBetween, IsWithin, AreWithin}
+use Rattle.zone_theory.proofs.Normal.{pair-decided}
+use Rattle.zone_tables.specs.Tables.{cell_at, IsTable}
+use Rattle.zone_tables.specs.Sizes.{IsWithin, AreWithin}
 use Rattle.zone_tables.specs.Large.{IsLarge, HasLarge}
 use Rattle.zone_tables.proofs.Judged.{within-not_large}
 use Rattle.zone_lists.specs.Zones.{matrix_in}

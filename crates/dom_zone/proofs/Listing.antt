@@ -1,21 +1,13 @@
 -- The numbers of a matrix, one after another, each as what a function makes of its limit.
-use Rattle.std.proofs.Common.{◌≡◌, ◌≢◌, ◌≤◌, ◌<◌, ◌+◌, ◌*◌, ◌^◌, ℕ, zero, suc, ℤ, Bool, true, false, cond, eqb, map, List, [], ◌∷◌, ◌++◌, length, Option, Some, None, refl, sym, ap, subst, ◌∙◌, add-one, arith}
+use Rattle.std.proofs.Common.{◌≡◌, ◌≤◌, ◌<◌, ◌+◌, ◌*◌, ◌^◌, ℕ, zero, suc, ℤ, Bool, true, false, cond, eqb, map, List, [], ◌∷◌, ◌++◌, length, Some, None, sym, ap, ◌∙◌, add-one, arith}
 use Rattle.std.proofs.lemmas.List.{append_assoc, append-nil, length-append, length-map, map-append}
 use Rattle.std.proofs.lemmas.Nat.{mul-le}
 use Rattle.zone_theory.specs.Bounds.{Bound}
 use Rattle.zone_theory.specs.Matrices.{Matrix}
 use Rattle.zone_theory.specs.Limits.{Limit, number, row, rows}
-use Rattle.zone_theory.proofs.Entries.{eqb_same, eqb_apart}
 
 abbrev one : ℕ → ℕ → ℤ → List Limit
 one i j c = record { high = i; low = j; most = c } ∷ []
-
-pub number-same : (i : ℕ) (b : Bound) → number i i b ≡ []
-number-same i None = refl
-number-same i (Some c) = ap (λ t. cond t [] (one i i c)) (eqb_same i)
-
-pub number-apart : (i j : ℕ) (c : ℤ) → i ≢ j → number i j (Some c) ≡ record { high = i; low = j; most = c } ∷ []
-number-apart i j c n = ap (λ t. cond t [] (one i j c)) (eqb_apart i j n)
 
 length-number : (i j : ℕ) (b : Bound) → length (number i j b) ≤ 1
 length-number i j None = omega arith
@@ -48,8 +40,15 @@ module _ {X : Type 0} (f : Limit → X) (m : Matrix) where
   -- there is room in the list
   pub row-room : (i j : ℕ) (start out : List X) → out ≡ start ++ map f (row m i j) → length start ≤ 2 ^ 30 → j ≤ 64
       → length out < 2 ^ 31
-  row-room i j start out is room l = omega (arith, ap length is, length-append start (map f (row m i j)), length-map (row m i j) f,
-      length-row m i j, room, l)
+  row-room i j start out is room l = omega (
+    arith,
+    ap length is,
+    length-append start (map f (row m i j)),
+    length-map (row m i j) f,
+    length-row m i j,
+    room,
+    l,
+  )
 
   -- one more row
   pub rows-longer : (n k : ℕ) (out new : List X) → out ≡ map f (rows m n k) → new ≡ out ++ map f (row m k n)

@@ -1,5 +1,5 @@
 -- The images and the joins of zones, as lists.
-use Rattle.std.proofs.Common.{◌≡◌, ◌≢◌, ⊎_elim, ◌≤◌, ◌<◌, ◌+◌, ◌*◌, ◌^◌, ℕ, suc, ℤ, pos, ◌+ℤ◌, ◌-ℤ◌, ◌≤ℤ◌, ◌<ℤ◌, neg_ℤ, unsigned_abs, Bool, true, false, not, List, length, Option, Some, None, refl, sym, ap, subst, subst₂, ◌∙◌, add-one, true≢false, arith}
+use Rattle.std.proofs.Common.{◌≡◌, ◌≢◌, ⊎_elim, ◌≤◌, ◌<◌, ◌+◌, ◌^◌, ℕ, suc, ℤ, pos, ◌+ℤ◌, ◌-ℤ◌, ◌≤ℤ◌, ◌<ℤ◌, neg_ℤ, unsigned_abs, Bool, true, false, not, List, Option, Some, None, refl, sym, ap, subst, subst₂, ◌∙◌, add-one, true≢false, arith}
 use Rattle.std.specs.Prelude.{◌↔◌, IsTrue}
 use Rattle.std.proofs.lemmas.Int.{ints}
 use Rattle.prog_theory.specs.States.{State, Term}
@@ -7,13 +7,12 @@ use Rattle.prog_theory.specs.Edges.{Op, Skips, Sets, Havocs, Guards}
 use Rattle.prog_theory.specs.Fits.{FitsOp}
 use Rattle.zone_theory.specs.Bounds.{Bound, IsAtMost, most}
 use Rattle.zone_theory.specs.Matrices.{Matrix, InZone, entry}
-use Rattle.zone_theory.specs.Closed.{IsClosed}
 use Rattle.zone_theory.specs.Shortest.{IsShortest}
 use Rattle.zone_theory.specs.Adding.{added, Admits}
 use Rattle.zone_theory.specs.Forgetting.{forgotten}
 use Rattle.zone_theory.specs.Assigning.{assigned}
 use Rattle.zone_theory.specs.Joining.{joined}
-use Rattle.zone_theory.specs.Zones.{Has, IsImage, IsJoin}
+use Rattle.zone_theory.specs.Zones.{Has, IsImage}
 use Rattle.zone_theory.proofs.Bounds.{lt_or_le, IsAtMost-more}
 use Rattle.zone_theory.proofs.Closing.{closed-shortest, shortest-closed, closed-same_set}
 use Rattle.zone_theory.proofs.Normal.{InZone-same, closed-same}

@@ -1,11 +1,11 @@
 -- What is made of zones, as the answers of the domain's calls.
-use Rattle.std.proofs.Common.{◌≡◌, ◌≢◌, ◌≤◌, ◌<◌, ◌^◌, ℕ, suc, List, Option, Some, None, refl, sym, ap, subst, ◌∙◌, arith}
+use Rattle.std.proofs.Common.{◌≡◌, ℕ, suc, List, Option, Some, None, refl, sym, ap, subst}
 use Rattle.std.specs.Prelude.{Result, Ok, Err}
 use Rattle.prog_theory.specs.States.{State}
 use Rattle.prog_theory.specs.Edges.{Op}
 use Rattle.prog_theory.specs.Fits.{FitsOp}
-use Rattle.dom_theory.specs.Refusals.{At, Whole, Polar, Kept}
-use Rattle.dom_theory.specs.Relations.{Apply, Join, Widen, Cause, OverLimit, OutOfRange}
+use Rattle.dom_theory.specs.Refusals.{Kept}
+use Rattle.dom_theory.specs.Relations.{Apply, Join, Widen}
 use Rattle.dom_core.specs.declared.error.At.TheVariants as ats
 use Rattle.dom_core.specs.declared.error.DomErr.{DomErr}
 use Rattle.dom_core.specs.declared.error.DomErr.TheVariants.{Limit, Range, NoMemory}
@@ -13,16 +13,15 @@ use Rattle.dom_core.specs.Answers.{IsAnswer}
 use Rattle.zone_theory.specs.Bounds.{Bound}
 use Rattle.zone_theory.specs.Matrices.{Matrix, InZone}
 use Rattle.zone_theory.specs.Closed.{IsClosed}
-use Rattle.zone_theory.specs.Zones.{Has, IsImage, IsJoin}
-use Rattle.zone_theory.specs.Widening.{IsKept, basis, IsWidened}
+use Rattle.zone_theory.specs.Zones.{Has}
+use Rattle.zone_theory.specs.Widening.{IsKept, basis}
 use Rattle.zone_theory.specs.Width.{numbers}
-use Rattle.zone_theory.specs.Domain.{Zone, IsNormalValue, Applied, Joined, Widened}
+use Rattle.zone_theory.specs.Domain.{IsNormalValue, Applied, Joined, Widened}
 use Rattle.zone_theory.specs.Relations.{IsTooLarge}
 use Rattle.zone_theory.proofs.DomainLaws.{applied-one, joined-one, widened-one}
 use Rattle.zone_tables.specs.Tables.{IsTable}
-use Rattle.zone_tables.specs.Sizes.{AreWithin}
 use Rattle.zone_lists.specs.Zones.{ZoneList, IsListed, IsTableIf, matrix_in, matrix_if, zone_of, zone_lists}
-use Rattle.dom_zone.specs.Values.{IsClosedTable, IsClosedIf, IsMoved, IsMet}
+use Rattle.dom_zone.specs.Values.{IsClosedIf, IsMoved, IsMet}
 use Rattle.dom_zone.specs.Answers.{HasLargeIf, AreSmallIf, IsFitted, IsFittedWith}
 use Rattle.zone_tables.proofs.Lists.{matrix-normal}
 use Rattle.dom_zone.proofs.Large.{too-large, not-too_large, empty-not_large}

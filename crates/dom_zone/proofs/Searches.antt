@@ -1,8 +1,7 @@
 -- Searches through a list, one element after another.
-use Rattle.std.proofs.Common.{◌≡◌, ◌<◌, ◌≤◌, ◌+◌, ⊎_elim, ℕ, zero, suc, true, false, List, [], ◌∷◌, length, get_or, Option, Some, None, refl, sym, ◌∙◌, subst, arith, true≢false}
+use Rattle.std.proofs.Common.{◌≡◌, ◌<◌, ◌≤◌, ◌+◌, ⊎_elim, ℕ, zero, suc, true, false, List, [], ◌∷◌, length, get_or, Option, Some, None, refl, sym, subst, arith, true≢false}
 use Rattle.std.specs.Prelude.{All, Any, IsTrue, ◌↔◌, slice_get}
 use Rattle.std.proofs.lemmas.Bool.{cases_lt}
-use Rattle.std.proofs.lemmas.List.{get_or_default}
 use Rattle.std.proofs.lemmas.Option.{slice_get_within}
 
 -- what holds of each element before a place, and of none

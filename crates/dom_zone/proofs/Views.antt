@@ -1,25 +1,22 @@
 -- What values of the code are as zones.
-use Rattle.std.proofs.Common.{◌≡◌, ◌≢◌, ⊎_elim, ◌≤◌, ◌<◌, ◌+◌, ◌*◌, ◌^◌, ℕ, zero, suc, ℤ, Bool, true, false, List, length, get_or, replicate, Option, Some, None, refl, sym, ap, subst, subst₂, ◌∙◌, true≢false, arith}
+use Rattle.std.proofs.Common.{◌≡◌, ⊎_elim, ◌≤◌, ◌<◌, ◌+◌, ◌*◌, ◌^◌, ℕ, zero, suc, ℤ, Bool, false, List, length, get_or, replicate, Option, Some, None, refl, sym, ap, subst, subst₂, ◌∙◌, true≢false, arith}
 use Rattle.std.specs.Prelude.{◌↔◌, IsTrue}
-use Rattle.std.proofs.lemmas.Bool.{cases_lt}
 use Rattle.std.proofs.lemmas.Int.{ints}
 use Rattle.std.proofs.lemmas.Nat.{mul-add-lt}
 use Rattle.prog_theory.specs.States.{State}
 use Rattle.zone_theory.specs.Bounds.{Bound, IsAtMost}
-use Rattle.zone_theory.specs.Matrices.{Matrix, InZone, free}
+use Rattle.zone_theory.specs.Matrices.{InZone, free}
 use Rattle.zone_theory.specs.Closed.{IsClosed}
-use Rattle.zone_theory.specs.Zones.{Has}
-use Rattle.zone_theory.specs.Domain.{Zone, HasState, bottom, top, Within}
+use Rattle.zone_theory.specs.Domain.{Zone, Within}
 use Rattle.zone_theory.proofs.Bounds.{le_same}
 use Rattle.zone_theory.proofs.Entries.{same_or_apart}
 use Rattle.zone_theory.proofs.Limits.{free-shortest}
 use Rattle.zone_theory.proofs.Closing.{shortest-closed, closed-itself}
 use Rattle.zone_theory.proofs.Including.{included, included-from}
-use Rattle.zone_tables.specs.Tables.{matrix_of, IsTable}
 use Rattle.zone_tables.specs.Sizes.{AreWithin, IsWithin}
 use Rattle.zone_tables.specs.Kept.{IsBelow}
-use Rattle.zone_lists.specs.Zones.{ZoneList, matrix_in, matrix_if, zone_of, empty, whole}
-use Rattle.dom_zone.specs.Values.{IsClosedTable, IsClosedIf, IsSmallTable, IsSmallIf, AreKept, AreKeptIf, IsSound}
+use Rattle.zone_lists.specs.Zones.{ZoneList, matrix_in, zone_of, empty, whole}
+use Rattle.dom_zone.specs.Values.{IsClosedIf, IsSmallTable, IsSmallIf, AreKeptIf, IsSound}
 use Rattle.dom_zone.specs.Answers.{AreSmallIf}
 use Rattle.zone_tables.specs.Passes.{IsClosing}
 use Rattle.dom_zone.specs.Widened.{IsBasis}

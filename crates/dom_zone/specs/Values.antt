@@ -1,5 +1,5 @@
 -- What every value of the code keeps.
-use Rattle.std.specs.Prelude.{◌≡◌, ◌≤◌, ◌^◌, ℕ, suc, List, Option, Some, None}
+use Rattle.std.specs.Prelude.{◌≤◌, ◌^◌, ℕ, suc, List, Option, Some, None}
 use Rattle.prog_theory.specs.Edges.{Op}
 use Rattle.zone_theory.specs.Bounds.{Bound}
 use Rattle.zone_theory.specs.Matrices.{Matrix, InZone}

@@ -1,5 +1,5 @@
 -- Images and joins of zones in lists grow with the values.
-use Rattle.std.proofs.Common.{◌≡◌, ℕ, Option, Some, None, refl, sym, subst}
+use Rattle.std.proofs.Common.{ℕ, Option, Some, None, sym, subst}
 use Rattle.prog_theory.specs.Edges.{Op}
 use Rattle.prog_theory.specs.Fits.{FitsOp}
 use Rattle.dom_theory.specs.Inclusion.{SoundLaws, GrowthLaws, InclusionLaws}

@@ -1,9 +1,6 @@
 -- Zones in lists, as the values of an analysis: each relation is that of the zones which the lists stand for.
-use Rattle.std.specs.Prelude.{◌≡◌, ◌*◌, ℕ, suc, List, replicate, Option, Some, None}
-use Rattle.prog_theory.specs.Edges.{Op}
-use Rattle.prog_theory.specs.States.{State}
-use Rattle.dom_theory.specs.Relations.{Relations, Call, Apply, Join, Widen, Cause}
-use Rattle.dom_theory.specs.Refusals.{At}
+use Rattle.std.specs.Prelude.{◌*◌, ℕ, suc, List, replicate, Option, Some, None}
+use Rattle.dom_theory.specs.Relations.{Relations, Call, Apply, Join, Widen}
 use Rattle.zone_theory.specs.Bounds.{Bound}
 use Rattle.zone_theory.specs.Matrices.{Matrix}
 use Rattle.zone_theory.specs.Domain.{Zone, HasState, Within, Joined, Widened, zone_width, max_width}

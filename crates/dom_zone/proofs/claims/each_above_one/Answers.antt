@@ -1,5 +1,5 @@
-use Rattle.std.proofs.Common.{sym, ◌∙◌, true≢false, arith}
-use Rattle.std.specs.Prelude.{All, Any}
+use Rattle.std.proofs.Common.{sym, ◌∙◌, true≢false}
+use Rattle.std.specs.Prelude.{Any}
 use Rattle.prog_tree.specs.Terms.{term_of}
 use Rattle.zone_lists.specs.Zones.{matrix_in}
 use Rattle.dom_zone.specs.Claims.{AtEach}

@@ -13,7 +13,7 @@ small op = EachOp (λ x. Unit {0}) (IsNumberWithin (2 ^ 31 + 1)) op
 
 pub returns-in_ok-changed_table-in-Set : goal.returns-in_ok-changed_table-in-Set
 returns-in_ok-changed_table-in-Set c = set-made c.args.vars (c.args.vars + 1) c.args.bounds.now c.requires.sound
-    (add-one c.args.vars) (op_of c.args.op.now) c.in-Set.var (term_of c.in-Set.value) c.from.result
+    (add-one c.args.vars) (op_of c.args.op.now) c.in-Set.var (term_of c.in-Set.value) _
     c.in_ok-changed_table-in-Set.field-0 (sym (ap op_of c.in-Set.is))
     (omega (arith, ints, c.from.ensures, subst small (ap op_of c.in-Set.is) c.requires.numbers)) c.requires.fits
     c.in_ok-changed_table-in-Set.ensures

@@ -1,4 +1,4 @@
-use Rattle.std.proofs.Common.{subst, sym, ◌^◌}
+use Rattle.std.proofs.Common.{subst, ◌^◌}
 use Rattle.std.proofs.lemmas.Bool.{OnFalse_at}
 use Rattle.zone_tables.specs.Sizes.{AreWithin}
 use Rattle.dom_zone.proofs.Views.{kept-sound}
