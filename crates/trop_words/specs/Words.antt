@@ -3,7 +3,7 @@ use Rattle.std.specs.Prelude.{◌≡◌, ◌≤◌, ◌⊎◌, ℕ, true, false,
 use Rattle.trop_words.specs.declared.command.Command.{Command}
 use Rattle.trop_words.specs.declared.command.Command.TheVariants.{Reduce, Ext, Int, Tangent, Include, Equal, Join, Meet, Forget, Trace, Analyze, Check, Sample}
 use Rattle.trop_words.specs.declared.command.Mode.{Mode}
-use Rattle.trop_words.specs.declared.command.Mode.TheVariants.{Max, Min}
+use Rattle.trop_words.specs.declared.command.Mode.TheVariants.{Max, Min, Mixed, Zone}
 use Rattle.trop_words.specs.Names.{IsName}
 
 -- the word of a key and its number
@@ -13,6 +13,8 @@ key_word key n = key ++ decimal n
 abbrev pub mode_word : Mode → List ℕ
 mode_word Max = codes "mode=max"
 mode_word Min = codes "mode=min"
+mode_word Mixed = codes "mode=mixed"
+mode_word Zone = codes "mode=zone"
 
 -- The words of a key and its number: none, where it may be left out and the number is the default.
 abbrev pub MaySpell : List ℕ → ℕ → ℕ → List (List ℕ) → Type 0

@@ -1,13 +1,17 @@
 //! What a user may ask for.
 use thiserror::Error;
 
-/// The semiring of numbers in which a program is analysed.
+/// By which domain a program is analysed.
 #[derive(Clone, Copy, Debug, PartialEq, Eq)]
 pub enum Mode {
-    /// Maximum and sum.
+    /// Tropical polyhedra by maximum and sum.
     Max,
-    /// Minimum and sum.
+    /// Tropical polyhedra by minimum and sum.
     Min,
+    /// Tropical polyhedra by maximum and sum over the variables and their opposites.
+    Mixed,
+    /// Zones: bounds of the differences of two variables, and of variables.
+    Zone,
 }
 
 /// What a user may ask for.

@@ -11,7 +11,7 @@
 //! | `op include`, `op equal`, `op join`, `op meet` | |
 //! | `op forget var=NAME` | a name of at most 32 bytes |
 //! | `trace turns=N` | 0 to 10,000 |
-//! | `analyze mode=max [delay=N] [narrow=K]`, or `mode=min` | 0 to 1,000, else 2; 0 to 100, else 0 |
+//! | `analyze mode=M [delay=N] [narrow=K]` | `max`, `min`, `mixed` or `zone`; 0 to 1,000, else 2; 0 to 100, else 0 |
 //! | `sample seed=N vars=D rows=K` | 0 to 2,147,483,647; 1 to 31; 0 to 1,024 |
 #![tactic(auto)]
 

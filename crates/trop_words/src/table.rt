@@ -138,6 +138,8 @@ fn mode_of(word: &str) -> Option<Mode>
     match word {
         "mode=max" => Some(Mode::Max),
         "mode=min" => Some(Mode::Min),
+        "mode=mixed" => Some(Mode::Mixed),
+        "mode=zone" => Some(Mode::Zone),
         _ => None,
     }
 }

@@ -11,7 +11,7 @@ fn words_of(alloc: Global, line: &str) -> Result<Vec<String>, Fail> {
     Ok(words)
 }
 
-const GOOD: [(&str, Command<'static>); 21] = [
+const GOOD: [(&str, Command<'static>); 23] = [
     ("reduce", Command::Reduce),
     ("ext", Command::Ext),
     ("int", Command::Int { lean: false }),
@@ -72,6 +72,22 @@ const GOOD: [(&str, Command<'static>); 21] = [
         },
     ),
     (
+        "analyze mode=mixed",
+        Command::Analyze {
+            mode: Mode::Mixed,
+            delay: 2,
+            narrow: 0,
+        },
+    ),
+    (
+        "analyze mode=zone delay=0 narrow=1",
+        Command::Analyze {
+            mode: Mode::Zone,
+            delay: 0,
+            narrow: 1,
+        },
+    ),
+    (
         "sample seed=0 vars=1 rows=0",
         Command::Sample {
             seed: 0,
@@ -89,7 +105,7 @@ const GOOD: [(&str, Command<'static>); 21] = [
     ),
 ];
 
-const BAD: [&str; 29] = [
+const BAD: [&str; 31] = [
     "",
     "Reduce",
     "reduce ",
@@ -114,6 +130,8 @@ const BAD: [&str; 29] = [
     "trace turns=",
     "analyze delay=2",
     "analyze mode=both",
+    "analyze mode=zones",
+    "analyze mode=",
     "analyze mode=max narrow=101",
     "analyze mode=max narrow=1 delay=1",
     "analyze mode=max delay=1 delay=1",
