@@ -1,0 +1,2 @@
+//! The command `analyze mode=zone`.
+#![tactic(auto)]
