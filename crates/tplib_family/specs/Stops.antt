@@ -37,5 +37,6 @@ pub record IsPointStop {V : Type 0} (D : Relations V) (stops : V → ℕ → ℕ
 
 -- the analysis stops there, or the list of a point
 abbrev pub IsListedStop : {V : Type 0} → Relations V → (V → ℕ → ℕ → Type 0) → ℕ → ℕ → Named → Cause → Stop → Type 0
+IsListedStop D stops delay narrow p cause (At place) = IsAnalysisStop (FamilyOf D delay narrow p) cause (At place)
 IsListedStop D stops delay narrow p OverLimit (PointPolar point i k) = IsPointStop D stops delay narrow p point i k
-IsListedStop D stops delay narrow p cause stop = IsAnalysisStop (FamilyOf D delay narrow p) cause stop
+IsListedStop D stops delay narrow p _ stop = ⊥
