@@ -1,5 +1,5 @@
 -- The lines of the bounds of a matrix, one more at a time.
-use Rattle.std.proofs.Common.{◌≡◌, ◌≢◌, ◌+◌, ◌==◌, ◌∙◌, ℕ, ℤ, suc, Bool, true, cond, List, [], ◌∷◌, ◌++◌, codes, Some, None, refl, sym, ap, subst, add-one, append_assoc, append-nil}
+use Rattle.std.proofs.Common.{◌≡◌, ◌≢◌, ◌+◌, ◌∙◌, ℕ, ℤ, List, [], ◌∷◌, ◌++◌, codes, Some, None, refl, sym, ap, subst, add-one, append_assoc, append-nil}
 use Rattle.zone_theory.specs.Bounds.{Bound}
 use Rattle.zone_theory.specs.Matrices.{Matrix}
 use Rattle.zone_theory.specs.Limits.{Limit, number, row, rows}

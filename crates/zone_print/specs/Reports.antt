@@ -24,11 +24,11 @@ pub record IsZoneReport (delay narrow passes : ℕ) (p : Named) (values : List Z
   pub verdicts : List Bool
   pub verdicts_are : AllZip (IsJudgedBy proves (value_in zones p values)) (asserts (nameless p)) verdicts
   pub printed : text ≡ short_text (record {
-        word = codes "zone";
-        delay = delay;
-        narrow = narrow;
-        passes = passes;
-        program = p;
-        blocks = map (zone_block p.names) values;
-        verdicts = verdicts;
-      })
+    word = codes "zone";
+    delay = delay;
+    narrow = narrow;
+    passes = passes;
+    program = p;
+    blocks = map (zone_block p.names) values;
+    verdicts = verdicts;
+  })

@@ -39,12 +39,7 @@ fn push_bound(
 }
 
 // The lines of the bounds of a coordinate less any other.
-fn push_row(
-    text: &mut Vec<u8>,
-    names: &Names,
-    zone: &ZoneDomain,
-    i: u32,
-) -> Result<(), NoMemory>
+fn push_row(text: &mut Vec<u8>, names: &Names, zone: &ZoneDomain, i: u32) -> Result<(), NoMemory>
     requires some { ¬ zone.now ≡ empty zone.now.vars }
     requires vars { zone.now.vars ≡ length names.now }
     requires row { i ≤ zone.now.vars }
