@@ -1,0 +1,6 @@
+//! Analyses of small programs by polyhedra over variables and their opposites, in a table worked by hand. Nothing stands
+//! on this crate.
+#![tactic(auto)]
+
+#[cfg(test)]
+mod tests;

@@ -1,0 +1,4 @@
+// Tests by tables.
+mod analyses;
+mod reading;
+mod rows;
