@@ -1,4 +1,3 @@
-pub mod AssertNumbers
 pub mod Parts
 pub mod Loops
 pub mod EndLine

@@ -13,7 +13,8 @@ use Rattle.report_texts.specs.Reports.{assert_numbers}
 use Rattle.report_texts.specs.Printed.{row_text, label_text, verdict_text, line_text, lines_text, blocks_of, judged_of, body_of, printed_head, printed_report}
 use Rattle.report_value.specs.Texts.{in_mode}
 use Rattle.report_value.specs.Views.{ReportOver}
-use Rattle.report_print.specs.Texts.{head_text, rows_text, inequalities_text, part_text, point_line, blocks_text, verdict_line, verdicts_text, report_text}
+use Rattle.report_lines.specs.Texts.{point_line, verdict_line, verdicts_text}
+use Rattle.report_print.specs.Texts.{head_text, rows_text, inequalities_text, part_text, blocks_text, report_text}
 
 -- ---- lists of bytes
 

@@ -1,2 +1,1 @@
-pub mod AssertNumbers
 pub mod Texts

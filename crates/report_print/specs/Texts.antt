@@ -1,6 +1,6 @@
 -- The bytes of each part of a printed report, over any semiring. They are those of the one text by which a report is
 -- printed: `proofs/Parts` shows it, part by part.
-use Rattle.std.specs.Prelude.{ℕ, suc, Bool, List, [], ◌∷◌, ◌++◌, codes, decimal}
+use Rattle.std.specs.Prelude.{ℕ, suc, List, [], ◌∷◌, ◌++◌, codes, decimal}
 use Rattle.trop_theory.specs.Numbers.{Numbering}
 use Rattle.trop_theory.specs.Inequalities.{Inequality}
 use Rattle.trop_spelling.specs.declared.ring_kind.RingKind.{RingKind}
@@ -10,9 +10,10 @@ use Rattle.prog_theory.specs.Graph.{Point, points}
 use Rattle.prog_theory.specs.Named.{nameless}
 use Rattle.prog_texts.specs.Printed.{printed}
 use Rattle.cone_reports.specs.Reports.{Part}
-use Rattle.report_texts.specs.Printed.{row_text, label_text, verdict_text, lines_text, word_line}
+use Rattle.report_texts.specs.Printed.{row_text, lines_text, word_line}
 use Rattle.report_texts.specs.Reports.{assert_numbers}
 use Rattle.report_value.specs.Views.{ReportOver}
+use Rattle.report_lines.specs.Texts.{point_line, verdicts_text}
 
 -- the lines before the program
 abbrev pub head_text : RingKind → ℕ → ℕ → ℕ → List ℕ
@@ -34,10 +35,6 @@ abbrev pub part_text : {V : Type 0} → RingKind → Numbering V → List (List 
 part_text kind N names [] invs = codes "unreachable\n"
 part_text kind N names (x ∷ rows) invs = rows_text kind N (x ∷ rows) ++ inequalities_text kind N names invs
 
--- the first line of the block of the point with the number n
-abbrev pub point_line : ℕ → Point → List ℕ
-point_line n p = codes "at " ++ (decimal n ++ (codes " " ++ (label_text p ++ codes "\n")))
-
 -- the blocks of points, of which the first one has the number n
 abbrev pub blocks_text : {V : Type 0} → RingKind → Numbering V → List (List ℕ) → ℕ → List Point → List (Part V) →
     List ℕ
@@ -45,15 +42,6 @@ blocks_text kind N names n [] parts = []
 blocks_text kind N names n (p ∷ ps) [] = []
 blocks_text kind N names n (p ∷ ps) (x ∷ parts) =
     point_line n p ++ (part_text kind N names x.rows x.printed ++ blocks_text kind N names (suc n) ps parts)
-
--- the line of the verdict on the assert with the number n
-abbrev pub verdict_line : ℕ → Bool → List ℕ
-verdict_line n b = codes "assert " ++ (decimal n ++ (codes " " ++ (verdict_text b ++ codes "\n")))
-
-abbrev pub verdicts_text : List ℕ → List Bool → List ℕ
-verdicts_text [] verdicts = []
-verdicts_text (n ∷ ns) [] = []
-verdicts_text (n ∷ ns) (b ∷ verdicts) = verdict_line n b ++ verdicts_text ns verdicts
 
 -- the whole
 abbrev pub report_text : {V : Type 0} → RingKind → Numbering V → ReportOver V → List ℕ

@@ -1,52 +1,19 @@
 //! The block of each point.
-ghost use Rattle.std.specs.Prelude.{◌≡◌, ◌<◌, ◌≤◌, ◌+◌, ◌++◌, Some, All, map, length, slice_get, decimal, OnOk};
+ghost use Rattle.std.specs.Prelude.{◌≡◌, ◌<◌, ◌≤◌, ◌+◌, ◌++◌, Some, All, map, length, slice_get, OnOk};
 ghost use Rattle.prog_theory.specs.Graph.{points};
 ghost use Rattle.prog_theory.specs.Named.{nameless};
 ghost use Rattle.prog_graph.specs.Views.{point_of};
-ghost use Rattle.report_texts.specs.Printed.{label_text};
 ghost use Rattle.report_value.specs.Views.{parts_of};
-ghost use Rattle.report_print.specs.Texts.{part_text, point_line, blocks_text};
+ghost use Rattle.report_lines.specs.Texts.{point_line};
+ghost use Rattle.report_print.specs.Texts.{part_text, blocks_text};
 
 use crate::NoMemory;
 use crate::lines::{push_inequalities, push_rows};
-use itoa::Buffer;
 use prog_graph::Point;
+use report_lines::push_point;
 use report_value::{PointPart, Report};
 use trop_spelling::Spelling;
 use trop_text::Names;
-
-fn push_number(text: &mut Vec<u8>, number: u32) -> Result<(), NoMemory>
-    ensures { OnOk result (text.new.items ≡ text.old.items ++ decimal number) }
-{
-    let mut buffer = Buffer::new();
-    text.extend_from_slice(buffer.format(number).as_bytes())
-}
-
-// What point it is.
-fn push_label(text: &mut Vec<u8>, point: Point) -> Result<(), NoMemory>
-    ensures { OnOk result (text.new.items ≡ text.old.items ++ label_text (point_of point)) }
-{
-    match point {
-        Point::Statement(number) => {
-            text.extend_from_slice(b"statement ")?;
-            push_number(text, number)
-        }
-        Point::Inner => text.extend_from_slice(b"inner"),
-        Point::Exit => text.extend_from_slice(b"exit"),
-    }
-}
-
-// The first line of a block.
-fn push_point(text: &mut Vec<u8>, number: u32, point: Point) -> Result<(), NoMemory>
-    ensures { OnOk result (text.new.items ≡ text.old.items ++ point_line number (point_of point)) }
-{
-    text.extend_from_slice(b"at ")?;
-    push_number(text, number)?;
-    text.push(b' ')?;
-    push_label(text, point)?;
-    text.push(b'\n')?;
-    Ok(())
-}
 
 // The lines behind the first.
 fn push_part<S: Spelling>(

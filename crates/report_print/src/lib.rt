@@ -2,7 +2,6 @@
 //! of a report that may stand in a text is read back to the same report.
 #![tactic(auto)]
 
-mod asserts;
 mod blocks;
 mod head;
 mod lines;

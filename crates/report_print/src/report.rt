@@ -12,10 +12,10 @@ ghost use Rattle.report_value.specs.Texts.{text_of};
 ghost use Rattle.report_print.specs.Texts.{report_text};
 
 use crate::NoMemory;
-use crate::asserts::push_verdicts;
 use crate::blocks::push_blocks;
 use crate::head::push_head;
 use prog_print::push_program;
+use report_lines::push_verdicts;
 use report_value::{AnyReport, Report};
 use std::alloc::Global;
 use trop_spelling::Spelling;

@@ -1,7 +1,8 @@
 use Rattle.std.proofs.Common.{◌≡◌, OnOk, ap, subst}
 use Rattle.prog_graph.specs.Views.{point_of}
-use Rattle.report_print.specs.Texts.{part_text, point_line}
-use Rattle.report_print.proofs.Loops.{same_item, found, both_behind}
+use Rattle.report_lines.specs.Texts.{point_line}
+use Rattle.report_lines.proofs.Loops.{same_item, found, both_behind}
+use Rattle.report_print.specs.Texts.{part_text}
 use Rattle.report_print.proofs.blocks.push_block.Goals as goal
 
 pub returns : goal.returns

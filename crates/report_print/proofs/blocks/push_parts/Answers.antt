@@ -1,7 +1,8 @@
 use Rattle.std.proofs.Common.{◌+◌, refl, arith}
 use Rattle.prog_graph.specs.Views.{point_of}
 use Rattle.report_value.specs.Views.{part_of}
-use Rattle.report_print.proofs.Loops.{item_at, drop_mapped, one_block}
+use Rattle.report_lines.proofs.Loops.{item_at, drop_mapped}
+use Rattle.report_print.proofs.Loops.{one_block}
 use Rattle.report_print.proofs.blocks.push_parts.Goals as goal
 
 pub loop-k-preserved : goal.loop-k-preserved

@@ -1,8 +1,8 @@
 use Rattle.std.proofs.Common.{◌≡◌, ◌+◌, ◌++◌, drop}
 use Rattle.prog_theory.specs.Numbering.{counts}
 use Rattle.prog_tree.specs.Stmts.{block_of}
-use Rattle.report_print.specs.AssertNumbers.{numbers_bl}
-use Rattle.report_print.proofs.asserts.+numbers.Given as goal
+use Rattle.report_lines.specs.AssertNumbers.{numbers_bl}
+use Rattle.report_lines.proofs.asserts.+numbers.Given as goal
 
 abbrev pub invariant-block_numbers-loop-stmt : goal.invariant-block_numbers-loop-stmt
 invariant-block_numbers-loop-stmt l = record {

@@ -1,7 +1,7 @@
 use Rattle.std.proofs.Common.{◌++◌, ℕ, List, ap, ap₂, sym, ◌∙◌}
-use Rattle.report_print.specs.AssertNumbers.{numbers_bl}
-use Rattle.report_print.proofs.AssertNumbers.{numbers_are}
-use Rattle.report_print.proofs.asserts.numbers.Goals as goal
+use Rattle.report_lines.specs.AssertNumbers.{numbers_bl}
+use Rattle.report_lines.proofs.AssertNumbers.{numbers_are}
+use Rattle.report_lines.proofs.asserts.numbers.Goals as goal
 
 pub returns : goal.returns
 returns c =

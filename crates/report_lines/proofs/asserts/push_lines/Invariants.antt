@@ -1,6 +1,6 @@
 use Rattle.std.proofs.Common.{◌≡◌, ◌++◌, drop}
-use Rattle.report_print.specs.Texts.{verdicts_text}
-use Rattle.report_print.proofs.asserts.push_lines.Given as goal
+use Rattle.report_lines.specs.Texts.{verdicts_text}
+use Rattle.report_lines.proofs.asserts.push_lines.Given as goal
 
 abbrev pub invariant-loop-k : goal.invariant-loop-k
 invariant-loop-k l = l.text.items ++ verdicts_text (drop l.k l.numbers) (drop l.k l.verdicts) ≡

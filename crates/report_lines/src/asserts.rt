@@ -4,8 +4,8 @@ ghost use Rattle.prog_theory.specs.Numbering.{count, counts};
 ghost use Rattle.prog_tree.specs.Stmts.{stmt_of};
 ghost use Rattle.report_texts.specs.Printed.{verdict_text};
 ghost use Rattle.report_texts.specs.Reports.{assert_numbers};
-ghost use Rattle.report_print.specs.AssertNumbers.{numbers_st, numbers_bl};
-ghost use Rattle.report_print.specs.Texts.{verdict_line, verdicts_text};
+ghost use Rattle.report_lines.specs.AssertNumbers.{numbers_st, numbers_bl};
+ghost use Rattle.report_lines.specs.Texts.{verdict_line, verdicts_text};
 
 use crate::NoMemory;
 use itoa::Buffer;
@@ -87,7 +87,7 @@ fn push_lines(text: &mut Vec<u8>, numbers: &[u32], verdicts: &[bool]) -> Result<
 }
 
 /// Appends the line of each verdict, which are on the asserts of the program in order.
-pub(crate) fn push_verdicts(
+pub fn push_verdicts(
     text: &mut Vec<u8>,
     alloc: Global,
     program: &Program,

@@ -1,6 +1,6 @@
 use Rattle.std.proofs.Common.{arith}
-use Rattle.report_print.proofs.Loops.{drop_next, one_verdict}
-use Rattle.report_print.proofs.asserts.push_lines.Goals as goal
+use Rattle.report_lines.proofs.Loops.{drop_next, one_verdict}
+use Rattle.report_lines.proofs.asserts.push_lines.Goals as goal
 
 pub loop-k-preserved : goal.loop-k-preserved
 loop-k-preserved c =

@@ -9,7 +9,7 @@ use Rattle.prog_theory.specs.Named.{Named}
 use Rattle.prog_theory.specs.Places.{Place, places, places_of, width, widths, entry}
 use Rattle.cone_reports.specs.Asserts.{Assertion, own_asserts, asserts_of}
 use Rattle.report_texts.specs.Reports.{assert_numbers}
-use Rattle.report_print.specs.AssertNumbers.{numbers_st, numbers_bl}
+use Rattle.report_lines.specs.AssertNumbers.{numbers_st, numbers_bl}
 
 asserts_of-append : (xs ys : List Place) → asserts_of (xs ++ ys) ≡ asserts_of xs ++ asserts_of ys
 asserts_of-append [] ys = refl

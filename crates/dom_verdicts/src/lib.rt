@@ -1,0 +1,6 @@
+//! Which asserts of a program the values of its points prove, for any domain.
+#![tactic(auto)]
+
+mod verdicts;
+
+pub use verdicts::verdicts;

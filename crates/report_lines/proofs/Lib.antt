@@ -1,0 +1,2 @@
+pub mod AssertNumbers
+pub mod Loops
