@@ -1,6 +1,7 @@
 -- What is said of a point with a value, and where that is refused.
 use Rattle.std.specs.Prelude.{◌≡◌, ◌<◌, ℤ, ℕ, List, [], ◌∷◌, Option, length}
 use Rattle.trop_theory.specs.Inequalities.{Inequality}
+use Rattle.trop_theory.specs.Canonical.{IsCanonical}
 use Rattle.trop_theory.specs.MaxPlus.{max_ring, max_numbering}
 use Rattle.trop_duality.specs.External.{IsExternal}
 use Rattle.trop_duality.specs.PolarStops.{IsPolarStop}
@@ -15,10 +16,10 @@ abbrev pub AreBoundsOf : Value (Option ℤ) → List (List (Option ℤ)) → Lis
 AreBoundsOf v [] printed = printed ≡ []
 AreBoundsOf v (x ∷ rows) printed = IsExternal max_ring (coordinates v) (cone_of max_ring v) printed
 
--- the rows of the value, and their external list
+-- the canonical list of the cone, and its external list
 pub record IsSaidOf (v : Value (Option ℤ)) (part : Part (Option ℤ)) : Type 0 where
-  pub rows_are : part.rows ≡ v.rows
-  pub bounds : AreBoundsOf v v.rows part.printed
+  pub canonical : IsCanonical max_ring (cone_of max_ring v) part.rows
+  pub bounds : AreBoundsOf v part.rows part.printed
 
 -- the external list of the value stops at the polar of coordinate i, of its first k rows
 abbrev pub IsListStop : Value (Option ℤ) → ℕ → ℕ → Type 0

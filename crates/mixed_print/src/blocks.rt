@@ -21,11 +21,7 @@ use trop_scalar::MaxInt;
 use trop_text::Names;
 
 // The external list of the value at the point. No external list is refused by `Rows`.
-fn external(
-    alloc: Global,
-    value: &MixedDomain,
-    point: u32,
-) -> Result<System<MaxInt>, MixedErr>
+fn external(alloc: Global, value: &MixedDomain, point: u32) -> Result<System<MaxInt>, MixedErr>
     ensures width { IfOk result (λ invs. invs.n ≡ coordinates value.now) }
     ensures external { IfOk result (λ invs. IsExternal max_ring (coordinates value.now) (cone_of max_ring value.now)
         invs.inequalities) }
@@ -41,12 +37,7 @@ fn external(
 }
 
 // The block of the point that has this number and this value.
-fn block(
-    alloc: Global,
-    names: &Names,
-    value: &MixedDomain,
-    point: u32,
-) -> Result<Vec<u8>, MixedErr>
+fn block(alloc: Global, names: &Names, value: &MixedDomain, point: u32) -> Result<Vec<u8>, MixedErr>
     requires { variables value.now ≡ length names.now }
     ensures text { IfOk result (λ text. IsBlockOf names.now value.now text.items) }
     ensures unstopped { OnOk result ((i k : ℕ) → IsListStop value.now i k → ⊥) }
