@@ -1,1 +1,3 @@
-pub mod Names
+pub mod Blocks
+pub mod Parts
+pub mod Suits

@@ -39,8 +39,7 @@ fn external(alloc: Global, value: &MixedDomain, point: u32) -> Result<System<Max
 // The block of the point that has this number and this value.
 fn block(alloc: Global, names: &Names, value: &MixedDomain, point: u32) -> Result<Vec<u8>, MixedErr>
     requires { variables value.now ≡ length names.now }
-    ensures text { IfOk result (λ text. IsBlockOf names.now value.now text.items) }
-    ensures unstopped { OnOk result ((i k : ℕ) → IsListStop value.now i k → ⊥) }
+    ensures made { IfOk result (λ text. IsBlockOf names.now value.now text.items) }
     ensures refused { IfErr result (IsBlockRefusal value.now point) }
 {
     let mut text = Vec::new(alloc);
@@ -63,8 +62,7 @@ pub(crate) fn blocks(
 ) -> Result<Vec<Vec<u8>>, MixedErr>
     requires few { length values.now ≤ 65536 }
     requires vars { All (λ v. variables v ≡ length program.now.names) values.now }
-    ensures texts { IfOk result (λ blocks. AllZip (IsBlockOf program.now.names) values.now (texts_of blocks.items)) }
-    ensures unstopped { OnOk result (All (λ v. (i k : ℕ) → IsListStop v i k → ⊥) values.now) }
+    ensures made { IfOk result (λ blocks. AllZip (IsBlockOf program.now.names) values.now (texts_of blocks.items)) }
     ensures refused { IfErr result (IsPrintRefusal program.now values.now) }
 {
     let names = program.names();
