@@ -115,6 +115,7 @@ fn least_by_least<S: Numeric>(vars: u32, left: &Side, right: &Side, rows: &Gens<
 }
 
 // Whether the sides are so read, and the greatest of the first side is at most the least of the other, by each pair of terms.
+#[tactic(auto, using(crate::proofs::Sides::and_then, crate::proofs::Sides::and_else))]
 fn greatest_by_least<S: Numeric>(vars: u32, left: &Side, right: &Side, rows: &Gens<S>) -> bool
     requires few { vars ≤ 31 }
     requires left_fits { All (IsTermOf vars) left.now.terms }
