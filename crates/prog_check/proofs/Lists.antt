@@ -9,7 +9,7 @@ use Rattle.trop_theory.specs.Vectors.{entry, bottom, row_size, rows_size, AreWid
 use Rattle.trop_theory.specs.Numbers.{Numbering, NumericLaws}
 use Rattle.trop_theory.specs.Combinations.{IsCombination}
 use Rattle.trop_theory.specs.Inequalities.{Inequality, inequality_size, system_size}
-use Rattle.trop_row.proofs.Others.{rows_size-append}
+use Rattle.trop_row.proofs.Sizes.{rows_size-append}
 use Rattle.trop_cones.specs.Sets.{assigned}
 use Rattle.trop_cones.proofs.Sizes.{rows_size-each, All-rows_size, row_size-assigned, row_size-cleared, row_size-set, row_size-bottom}
 use Rattle.prog_theory.specs.States.{Term}

@@ -1,8 +1,8 @@
 -- A system that grows line by line.
--- Index: fronts of a system (stop_more, within_next, stop_here); one line (left_falls, given_is, names_stay,
--- bytes_stay,
--- found_at, fault_at, line_given, stop_line, within_line); the answer (answered, stopped_at).
-use Rattle.std.proofs.Common.{◌≡◌, ◌<◌, ◌≤◌, ◌+◌, ◌⊎◌, inl, inr, ℕ, true, Option, Some, None, Result, Ok, Err, List, [], ◌∷◌, ◌++◌, length, take, sym, ap, subst, ◌∙◌, arith, length-append}
+-- Index: fronts of a system (stop_more, within_none, within_next, stop_here);
+-- one line (left_falls, given_is, names_stay, bytes_stay, found_at, fault_at, line_given, stop_line, within_line);
+-- the answer (answered, stopped_at).
+use Rattle.std.proofs.Common.{◌≡◌, ◌<◌, ◌≤◌, ◌+◌, ◌⊎◌, inl, inr, ℕ, zero, suc, true, Option, Some, None, Result, Ok, Err, List, [], ◌∷◌, ◌++◌, length, take, sym, ap, subst, ◌∙◌, arith, length-append}
 use Rattle.std.specs.Prelude.{IfOk, IfErr, IfNone}
 use Rattle.std.proofs.lemmas.Bool.{cases_lt}
 use Rattle.std.proofs.lemmas.List.{take-append-le, append-nil}
@@ -11,6 +11,8 @@ use Rattle.trop_theory.specs.Semiring.{Semiring}
 use Rattle.trop_theory.specs.Numbers.{Numbering}
 use Rattle.trop_theory.specs.Inequalities.{Inequality, Solves}
 use Rattle.trop_theory.specs.Canonical.{IsOverLimit}
+use Rattle.trop_theory.proofs.Distinct.{within_limit}
+use Rattle.trop_dd.specs.Description.{Describes}
 use Rattle.trop_text.specs.Pieces.{Piece, pieces_of}
 use Rattle.trop_text.specs.declared.fault.Fault.{Fault}
 use Rattle.trop_text.specs.declared.fault.TextErr.{TextErr}
@@ -59,6 +61,14 @@ module _ {V : Type 0} (R : Semiring V) (n : ℕ) where
     over = subst TooMany (sym (same_front xs x k h.within)) h.over;
     least = λ j below over. h.least j below (subst TooMany (same_front xs x j (omega (arith, h.within, below))) over);
   }
+
+  within_nothing : (rows : List (List V)) → Describes R n [] rows → IsWithin R n []
+  within_nothing rows h zero l o = within_limit R (Solves R n []) rows h.canonical h.within o
+  within_nothing rows h (suc j) l o = absurd (omega arith)
+
+  -- the whole space is within the limit
+  pub within_none : (xs : List (Inequality V)) (rows : List (List V)) → Describes R n [] rows → xs ≡ [] → IsWithin R n xs
+  within_none xs rows h none = subst (IsWithin R n) (sym none) (within_nothing rows h)
 
   within_at : (xs : List (Inequality V)) (x : Inequality V) → IsWithin R n xs → (TooMany (xs ++ x ∷ []) → ⊥) → (j : ℕ) →
       j ≤ length (xs ++ x ∷ []) → (j < length xs + 1) ⊎ (length xs + 1 ≤ j) → TooMany (take j (xs ++ x ∷ [])) → ⊥

@@ -1,7 +1,6 @@
-use Rattle.std.proofs.Common.{ap, ◌∙◌, subst, sym, arith, true≢false}
-use Rattle.trop_theory.specs.Vectors.{row_size}
+use Rattle.std.proofs.Common.{◌∙◌, subst, sym, arith, true≢false}
 use Rattle.trop_theory.specs.Combinations.{IsCombination}
-use Rattle.trop_row.proofs.Steps.{rows_size-at}
+use Rattle.trop_row.proofs.Sizes.{rows_size-read}
 use Rattle.cone_reports.specs.Verdicts.{IsFirstWithout}
 use Rattle.prog_check.proofs.Loops.{first_at}
 use Rattle.prog_check.proofs.escapes.first_outside.Goals as goal
@@ -11,8 +10,7 @@ member-requires-clause-target_size g c =
     let R = g.S.Scalar.ring in
     omega (
       arith,
-      ap (row_size R) c.row-item.is,
-      rows_size-at R c.args.rows.now c.loop-row.row-index c.row-item.result (omega arith),
+      rows_size-read R c.args.rows.now c.loop-row.row-index c.row-item.result c.row-item.is (omega arith),
       c.requires.size,
     )
 

@@ -1,6 +1,5 @@
-use Rattle.std.proofs.Common.{arith, ap}
-use Rattle.trop_theory.specs.Vectors.{row_size}
-use Rattle.trop_row.proofs.Steps.{rows_size-at}
+use Rattle.std.proofs.Common.{arith}
+use Rattle.trop_row.proofs.Sizes.{rows_size-read}
 use Rattle.trop_cones.specs.Sets.{assigned}
 use Rattle.prog_check.proofs.NormalLists.{normalised_more, normalised_whole}
 use Rattle.prog_check.proofs.moved.assigned_rows.Goals as goal
@@ -11,8 +10,7 @@ assigned_row-requires-clause-size g c =
     omega (
       arith,
       c.requires.size,
-      ap (row_size R) c.row-item.is,
-      rows_size-at R c.args.rows.now c.loop-row.row-index c.row-item.result (omega arith),
+      rows_size-read R c.args.rows.now c.loop-row.row-index c.row-item.result c.row-item.is (omega arith),
     )
 
 pub loop-row-preserved : goal.loop-row-preserved

@@ -1,6 +1,5 @@
-use Rattle.std.proofs.Common.{arith, ap, set}
-use Rattle.trop_theory.specs.Vectors.{row_size}
-use Rattle.trop_row.proofs.Steps.{rows_size-at}
+use Rattle.std.proofs.Common.{arith, set}
+use Rattle.trop_row.proofs.Sizes.{rows_size-read}
 use Rattle.prog_check.proofs.NormalLists.{normalised_more, normalised_whole}
 use Rattle.prog_check.proofs.moved.cleared_rows.Goals as goal
 
@@ -10,8 +9,7 @@ cleared_row-requires-clause-size g c =
     omega (
       arith,
       c.requires.size,
-      ap (row_size R) c.row-item.is,
-      rows_size-at R c.args.rows.now c.loop-row.row-index c.row-item.result (omega arith),
+      rows_size-read R c.args.rows.now c.loop-row.row-index c.row-item.result c.row-item.is (omega arith),
     )
 
 pub loop-row-preserved : goal.loop-row-preserved

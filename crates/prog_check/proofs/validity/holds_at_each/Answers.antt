@@ -1,7 +1,6 @@
 use Rattle.std.proofs.Common.{arith, ap, sym, ◌∙◌, length, true≢false}
-use Rattle.trop_theory.specs.Vectors.{row_size}
 use Rattle.trop_theory.specs.Inequalities.{IsTrueAt}
-use Rattle.trop_row.proofs.Steps.{rows_size-at}
+use Rattle.trop_row.proofs.Sizes.{rows_size-read}
 use Rattle.cone_claims.proofs.Loops.{each_more, not_each}
 use Rattle.prog_check.proofs.validity.holds_at_each.Goals as goal
 
@@ -15,8 +14,7 @@ holds-requires-clause-sizes g c =
     let R = g.S.Scalar.ring in
     omega (
       arith,
-      ap (row_size R) c.row-item.is,
-      rows_size-at R c.args.rows.now c.loop-row.row-index c.row-item.result (omega arith),
+      rows_size-read R c.args.rows.now c.loop-row.row-index c.row-item.result c.row-item.is (omega arith),
       c.requires.sizes,
     )
 

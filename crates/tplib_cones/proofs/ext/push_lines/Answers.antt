@@ -1,10 +1,9 @@
 use Rattle.std.proofs.Common.{◌+◌, ◌++◌, ◌∷◌, [], length, ◌∙◌, sym, ap, refl, subst, arith}
 use Rattle.trop_dd.specs.Description.{IsRefusedBy}
-use Rattle.trop_dd.proofs.Conversions.{within_none}
 use Rattle.trop_cones.specs.RowStops.{IsRowsStop}
 use Rattle.tplib_reply.proofs.Refused.{IsRefused-text}
 use Rattle.tplib_cones.specs.Ext.{ext_meaning}
-use Rattle.tplib_cones.proofs.LineByLine.{fault_at, line_given, stop_line, within_line, given_is, names_stay, bytes_stay}
+use Rattle.tplib_cones.proofs.LineByLine.{within_none, fault_at, line_given, stop_line, within_line, given_is, names_stay, bytes_stay}
 use Rattle.tplib_cones.proofs.ext.push_lines.Goals as goal
 
 pub lines-init : goal.lines-init
@@ -13,8 +12,8 @@ lines-init g c = record {
   names = refl;
   system = c.requires.empty ∙ sym c.requires.first;
   width = refl;
-  within = λ j le over. within_none g.S.Scalar.ring c.args.dd.now.n c.args.dd.now.system c.args.dd.now.rows
-      c.requires.described j (omega (arith, le, ap length c.requires.empty)) over;
+  within = within_none g.S.Scalar.ring c.args.dd.now.n c.args.dd.now.system c.args.dd.now.rows c.requires.described
+      c.requires.empty;
 }
 
 pub returns-in-Err-clause-refused : goal.returns-in-Err-clause-refused
