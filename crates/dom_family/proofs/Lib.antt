@@ -1,3 +1,4 @@
 pub mod Claims
 pub mod Lengths
+pub mod Zips
 pub mod Family

@@ -1,0 +1,4 @@
+pub mod Added
+pub mod Claims
+pub mod Judgeable
+pub mod Judged

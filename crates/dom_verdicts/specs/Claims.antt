@@ -29,7 +29,7 @@ abbrev mutual
 
 -- a claim that a value on so many variables can judge
 pub record IsJudgeable (suits : Claim → Type 0) (vars : ℕ) (claim : Claim) : Type 0 where
-  pub suits : suits claim
+  pub words : suits claim
   pub fits : FitsClaim vars claim
 
 -- the value at a point

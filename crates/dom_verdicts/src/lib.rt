@@ -1,6 +1,6 @@
 //! Which asserts of a program the values of its points prove, for any domain.
 #![tactic(auto)]
 
-mod verdicts;
+mod asserts;
 
-pub use verdicts::verdicts;
+pub use asserts::verdicts;

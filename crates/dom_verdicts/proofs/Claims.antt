@@ -13,8 +13,8 @@ use Rattle.prog_tree.specs.Stmts.{stmt_of, block_of}
 use Rattle.prog_graph.specs.TreeParts.{points_st, points_bl}
 use Rattle.prog_graph.proofs.TreeParts.{program_points}
 use Rattle.cone_reports.specs.Asserts.{Assertion, own_asserts, asserts_of, asserts}
-use Rattle.tplib_analyze.specs.Claims.{Claimed, claims_st, claims_bl, AreAdded}
-use Rattle.tplib_analyze.proofs.Zips.{AreAdded-nil, AreAdded-append}
+use Rattle.dom_verdicts.specs.Claims.{Claimed, claims_st, claims_bl, AreAdded}
+use Rattle.dom_verdicts.proofs.Added.{AreAdded-nil, AreAdded-append}
 
 -- an assert without its number
 abbrev pub claimed : Assertion → Claimed

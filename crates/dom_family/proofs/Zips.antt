@@ -2,7 +2,6 @@
 use Rattle.std.proofs.Common.{◌≡◌, ◌<◌, ◌+◌, ◌∙◌, ℕ, zero, suc, List, [], ◌∷◌, ◌++◌, length, take, get_or, map, sym, ap, refl, subst, append_assoc, append-nil, arith}
 use Rattle.std.specs.List.{AllZip}
 use Rattle.std.proofs.lemmas.List.{take_more}
-use Rattle.tplib_analyze.specs.Claims.{AreAdded}
 
 module _ {A B : Type 0} (P : A → B → Type 0) where
   pub AllZip-last : (xs : List A) (ys : List B) (x : A) (y : B) → AllZip P xs ys → P x y →
@@ -45,25 +44,6 @@ module _ {A B : Type 0} (P : A → B → Type 0) where
   AllZip-take_more xs ys i x y l is h p =
       subst (λ z. AllZip P z (ys ++ y ∷ [])) (ap (λ z. take i xs ++ z ∷ []) is ∙ sym (take_more xs i x l))
       (AllZip-last (take i xs) ys x y h p)
-
-  -- ---- things that are appended
-
-  pub AreAdded-nil : (old : List B) → AreAdded P [] old old
-  AreAdded-nil old = record { more = []; appended = sym (append-nil old); each = tt }
-
-  pub AreAdded-one : (x : A) (y : B) (old new : List B) → new ≡ old ++ y ∷ [] → P x y → AreAdded P (x ∷ []) old new
-  AreAdded-one x y old new is p = record { more = y ∷ []; appended = is; each = (p, tt) }
-
-  pub AreAdded-append : (xs ys : List A) (old middle new : List B) → AreAdded P xs old middle →
-      AreAdded P ys middle new → AreAdded P (xs ++ ys) old new
-  AreAdded-append xs ys old middle new h k = record {
-    more = h.more ++ k.more;
-    appended = k.appended ∙ ap (λ z. z ++ k.more) h.appended ∙ append_assoc old h.more k.more;
-    each = AllZip-append xs ys h.more k.more h.each k.each;
-  }
-
-  pub AreAdded-all : (xs : List A) (new : List B) → AreAdded P xs [] new → AllZip P xs new
-  AreAdded-all xs new h = subst (AllZip P xs) (sym h.appended) h.each
 
 -- of the same things, read in another way
 pub AllZip-map : {A B C : Type 0} (P : A → C → Type 0) (f : B → A) (xs : List B) (zs : List C) →

@@ -1,12 +1,31 @@
--- The verdicts on a statement, from those on its parts.
-use Rattle.std.proofs.Common.{◌≡◌, ◌+◌, ◌∙◌, ℕ, List, [], ◌++◌, Result, Ok, Err, sym, ap, subst}
+-- Things that are appended; and the verdicts on a statement, from those on its parts.
+use Rattle.std.proofs.Common.{◌≡◌, ◌+◌, ◌∙◌, ℕ, List, [], ◌∷◌, ◌++◌, Result, Ok, Err, sym, ap, subst, append_assoc, append-nil}
+use Rattle.std.specs.List.{AllZip}
 use Rattle.std.specs.Prelude.{OnOk}
 use Rattle.prog_theory.specs.Conditions.{Cond}
 use Rattle.prog_theory.specs.Statements.{Stmt, If, While, Block}
 use Rattle.prog_theory.specs.Places.{widths}
 use Rattle.prog_theory.specs.Tests.{test, inner}
-use Rattle.tplib_analyze.specs.Claims.{Claimed, claims_st, claims_bl, AreAdded}
-use Rattle.tplib_analyze.proofs.Zips.{AreAdded-nil, AreAdded-append}
+use Rattle.dom_verdicts.specs.Claims.{Claimed, claims_st, claims_bl, AreAdded}
+use Rattle.dom_family.proofs.Zips.{AllZip-append}
+
+module _ {A B : Type 0} (P : A → B → Type 0) where
+  pub AreAdded-nil : (old : List B) → AreAdded P [] old old
+  AreAdded-nil old = record { more = []; appended = sym (append-nil old); each = tt }
+
+  pub AreAdded-one : (x : A) (y : B) (old new : List B) → new ≡ old ++ y ∷ [] → P x y → AreAdded P (x ∷ []) old new
+  AreAdded-one x y old new is p = record { more = y ∷ []; appended = is; each = (p, tt) }
+
+  pub AreAdded-append : (xs ys : List A) (old middle new : List B) → AreAdded P xs old middle →
+      AreAdded P ys middle new → AreAdded P (xs ++ ys) old new
+  AreAdded-append xs ys old middle new h k = record {
+    more = h.more ++ k.more;
+    appended = k.appended ∙ ap (λ z. z ++ k.more) h.appended ∙ append_assoc old h.more k.more;
+    each = AllZip-append P xs ys h.more k.more h.each k.each;
+  }
+
+  pub AreAdded-all : (xs : List A) (new : List B) → AreAdded P xs [] new → AllZip P xs new
+  AreAdded-all xs new h = subst (AllZip P xs) (sym h.appended) h.each
 
 module _ {B : Type 0} (P : Claimed → B → Type 0) where
   -- behind other things
