@@ -1,4 +1,4 @@
-use Rattle.std.proofs.Common.{sym, subst}
+use Rattle.std.proofs.Common.{subst}
 use Rattle.std.specs.Prelude.{◌↔◌, IsTrue}
 use Rattle.mixed_claims.specs.Terms.{ArePairsBelow}
 use Rattle.mixed_claims.proofs.Sides.{and_then, and_else}
