@@ -1,5 +1,5 @@
 //! The verdicts on the asserts of statements, of blocks, and of a program.
-ghost use Rattle.std.specs.Prelude.{◌≡◌, ◌<◌, ◌≤◌, ◌+◌, ◌^◌, All, length, IfOk, OnOk};
+ghost use Rattle.std.specs.Prelude.{◌≡◌, ◌<◌, ◌≤◌, ◌+◌, ◌^◌, All, Some, length, slice_get, IfOk, OnOk};
 ghost use Rattle.std.specs.List.{AllZip};
 ghost use Rattle.prog_theory.specs.Each.{EachClaim, EachClaims};
 ghost use Rattle.prog_theory.specs.Graph.{points};
@@ -36,6 +36,14 @@ fn inner_points(cond: &Cond) -> u32
     }
 }
 
+// The value of a point.
+fn value_of<D: Domain>(values: &[D], point: u32) -> &D
+    requires { point < length values.now }
+    ensures { slice_get values.now point ≡ Some result.now }
+{
+    &values[point as usize]
+}
+
 // The verdict on an assert at a point.
 fn push_verdict<D: Domain>(
     out: &mut Vec<bool>,
@@ -50,7 +58,7 @@ fn push_verdict<D: Domain>(
     ensures { OnOk result (AreAdded (IsVerdictOn D.proven (value_at D.relations vars values.now))
         (claims_st point (tree.Assert (claim_of claim.now))) out.old.items out.new.items) }
 {
-    let proved = values[point as usize].proves(claim);
+    let proved = value_of(values, point).proves(claim);
     out.push(proved)?;
     Ok(())
 }

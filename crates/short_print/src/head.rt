@@ -22,7 +22,7 @@ pub struct Head<'a> {
 /// Appends the lines before the program.
 pub(crate) fn push_head(text: &mut Vec<u8>, head: Head<'_>) -> Result<(), NoMemory>
     ensures { OnOk result (text.new.items ≡ text.old.items
-        ++ short_head head.word.now head.delay head.narrow head.passes) }
+        ++ short_head head.entry.word.now head.entry.delay head.entry.narrow head.entry.passes) }
 {
     push_number_line(text, head.word, 1)?;
     push_number_line(text, b"delay", u64::from(head.delay))?;

@@ -32,10 +32,10 @@ pub fn print_short(
     requires points { length blocks.now ≡ length (points (nameless program.now)) }
     requires asserts { length verdicts.now ≡ length (assert_numbers program.now) }
     ensures { IfOk result (λ text. text.items ≡ short_text (record {
-      word = head.word.now;
-      delay = head.delay;
-      narrow = head.narrow;
-      passes = head.passes;
+      word = head.entry.word.now;
+      delay = head.entry.delay;
+      narrow = head.entry.narrow;
+      passes = head.entry.passes;
       program = program.now;
       blocks = texts_of blocks.now;
       verdicts = verdicts.now;

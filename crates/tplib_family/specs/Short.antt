@@ -27,14 +27,14 @@ pub record IsShortText {V : Type 0} (D : Relations V) (proven : Claim → V → 
   pub blocks : List (List ℕ)
   pub verdicts : List Bool
   pub printed : text ≡ short_text (record {
-        word = word;
-        delay = delay;
-        narrow = narrow;
-        passes = end.passes;
-        program = p;
-        blocks = blocks;
-        verdicts = verdicts;
-      })
+    word = word;
+    delay = delay;
+    narrow = narrow;
+    passes = end.passes;
+    program = p;
+    blocks = blocks;
+    verdicts = verdicts;
+  })
   pub blocks_are : AllZip (IsBlock p.names) end.values blocks
   pub verdicts_are : AllZip (IsJudgedBy proven (value_in D p end.values)) (asserts (nameless p)) verdicts
 

@@ -1,6 +1,6 @@
 -- Where a command on a family stops: at the first part of the analysis that is refused; or, where none is, at the first
 -- point whose external list stops.
-use Rattle.std.specs.Prelude.{◌<◌, ℕ, List, length}
+use Rattle.std.specs.Prelude.{◌<◌, ℕ, length}
 use Rattle.prog_theory.specs.Named.{Named}
 use Rattle.dom_theory.specs.Relations.{Relations}
 use Rattle.dom_theory.specs.Outcomes.{Outcome, Gives, Stops}

@@ -5,6 +5,6 @@
 //! stops, and `specs/Short` which text is the short report of a program.
 #![tactic(auto)]
 
-mod family;
+mod analysis;
 
-pub use family::family;
+pub use analysis::family;
