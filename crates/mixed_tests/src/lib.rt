@@ -1,5 +1,5 @@
-//! Analyses of small programs by polyhedra over variables and their opposites, in a table worked by hand. Nothing stands
-//! on this crate.
+//! Short reports of small programs over variables and their opposites, in a table worked by hand. Nothing stands on this
+//! crate.
 #![tactic(auto)]
 
 #[cfg(test)]
