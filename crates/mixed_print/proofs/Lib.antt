@@ -1,2 +1,3 @@
-pub mod Blocks
+pub mod Listed
+pub mod Turns
 pub mod Parts

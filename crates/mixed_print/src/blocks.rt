@@ -1,8 +1,10 @@
 //! The block of each point.
-ghost use Rattle.std.specs.Prelude.{◌≡◌, ◌≤◌, ℕ, All, length, IfOk, IfErr, OnOk};
+ghost use Rattle.std.specs.Prelude.{◌≡◌, ℕ, All, length, IfOk, IfErr, OnOk};
 ghost use Rattle.std.specs.List.{AllZip};
 ghost use Rattle.trop_theory.specs.MaxPlus.{max_ring};
 ghost use Rattle.trop_duality.specs.External.{IsExternal};
+ghost use Rattle.prog_theory.specs.Graph.{points};
+ghost use Rattle.prog_theory.specs.Named.{nameless};
 ghost use Rattle.cone_domain.specs.Values.{coordinates, cone_of};
 ghost use Rattle.mixed_theory.specs.Halves.{variables};
 ghost use Rattle.short_print.specs.Blocks.{texts_of};
@@ -60,7 +62,7 @@ pub(crate) fn blocks(
     program: &Program,
     values: &[MixedDomain],
 ) -> Result<Vec<Vec<u8>>, MixedErr>
-    requires few { length values.now ≤ 65536 }
+    requires points { length values.now ≡ length (points (nameless program.now)) }
     requires vars { All (λ v. variables v ≡ length program.now.names) values.now }
     ensures made { IfOk result (λ blocks. AllZip (IsBlockOf program.now.names) values.now (texts_of blocks.items)) }
     ensures refused { IfErr result (IsPrintRefusal program.now values.now) }
