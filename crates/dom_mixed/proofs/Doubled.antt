@@ -1,24 +1,23 @@
 -- The values that the operations give are doubled again.
-use Rattle.std.proofs.Common.{◌≡◌, ◌≤◌, ◌*◌, ◌/◌, ◌+◌, ℕ, suc, false, sym, ap, ◌∙◌, subst, arith}
-use Rattle.std.specs.Prelude.{◌↔◌, Bool, IsTrue, All, Result, Ok, Err, IfOk}
+use Rattle.std.proofs.Common.{◌≡◌, ◌≤◌, ◌*◌, ℕ, suc, false, sym, ap, ◌∙◌, subst, arith}
+use Rattle.std.specs.Prelude.{◌↔◌, Bool, IsTrue, Result, Ok, Err, IfOk}
 use Rattle.trop_theory.specs.Semiring.{Semiring, SemiringLaws}
 use Rattle.trop_theory.specs.Numbers.{Numbering, NumericLaws}
 use Rattle.trop_theory.specs.Combinations.{IsCombination}
 use Rattle.prog_theory.specs.Edges.{Op}
 use Rattle.prog_theory.specs.Statements.{Claim}
-use Rattle.dom_theory.specs.Relations.{Call, Apply, Join, Widen}
+use Rattle.dom_theory.specs.Relations.{Apply, Join, Widen}
 use Rattle.dom_core.specs.declared.error.DomErr.{DomErr}
 use Rattle.dom_core.specs.declared.error.DomErr.TheVariants.{Limit, Range, NoMemory}
 use Rattle.dom_core.specs.Answers.{IsAnswer, IsMade}
 use Rattle.dom_core.specs.Claims.{FitsClaim}
-use Rattle.cone_domain.specs.Values.{Value, coordinates, cone_of}
-use Rattle.cone_domain.specs.Operations.{IsJoin, IsWidening}
+use Rattle.cone_domain.specs.Values.{Value, cone_of}
 use Rattle.cone_domain.specs.Polyhedra.{nothing, polyhedra}
 use Rattle.mixed_theory.specs.Halves.{second_half, variables}
 use Rattle.mixed_theory.specs.Claims.{IsProvedOn}
 use Rattle.mixed_theory.specs.Mixed.{mixed, IsProvedBy}
 use Rattle.mixed_theory.proofs.Laws.{half_vars}
-use Rattle.mixed_claims.specs.Terms.{IsTermOf, IsClaimOf}
+use Rattle.mixed_claims.specs.Terms.{IsClaimOf}
 use Rattle.dom_mixed.specs.Doubled.{IsDoubled}
 
 -- a value on twice as many

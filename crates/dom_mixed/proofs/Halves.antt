@@ -1,21 +1,21 @@
 -- The answer of an image, from those of its halves.
-use Rattle.std.proofs.Common.{◌≡◌, inl, inr, ◌≤◌, ◌*◌, ◌+◌, ◌^◌, ℕ, false, Option, Some, None, MatchOption, refl, sym, ap, ◌∙◌, subst, arith}
-use Rattle.std.specs.Prelude.{Result, Ok, Err, unsigned_abs}
+use Rattle.std.proofs.Common.{◌≡◌, inl, inr, ℕ, false, Option, Some, None, MatchOption, refl, sym, subst, arith}
+use Rattle.std.specs.Prelude.{ℤ, Result, Ok, Err}
 use Rattle.trop_theory.specs.Semiring.{Semiring, SemiringLaws}
 use Rattle.trop_theory.specs.Numbers.{Numbering}
+use Rattle.trop_theory.specs.MaxPlus.{max_ring, max_numbering}
+use Rattle.trop_theory.proofs.MaxPlusLaws.{max_laws}
 use Rattle.prog_theory.specs.Edges.{Op, Skips, Sets, Havocs, Guards}
 use Rattle.prog_theory.specs.Each.{EachOp}
 use Rattle.prog_theory.specs.Fits.{FitsOp}
 use Rattle.prog_theory.specs.Within.{IsNumberWithin}
-use Rattle.dom_theory.specs.Refusals.{At, Whole}
+use Rattle.dom_theory.specs.Refusals.{Whole}
 use Rattle.dom_theory.specs.Relations.{Apply, Cause, OverLimit, OutOfRange}
 use Rattle.dom_theory.specs.Answers.{IsFree}
 use Rattle.dom_core.specs.declared.error.DomErr.{DomErr}
 use Rattle.dom_core.specs.declared.error.DomErr.TheVariants.{Limit, Range, NoMemory}
 use Rattle.dom_core.specs.Answers.{IsAnswer}
-use Rattle.dom_core.specs.Views.{at_of}
 use Rattle.cone_domain.specs.Values.{Value}
-use Rattle.cone_domain.specs.Operations.{IsImage}
 use Rattle.cone_domain.specs.Polyhedra.{polyhedra}
 use Rattle.cone_domain.proofs.Answers.{polyhedra_one}
 use Rattle.mixed_theory.specs.Halves.{second_half, variables, IsHalf, IsHalfRefused, IsSecondRefused, IsImageRefused}
@@ -99,3 +99,9 @@ module _ {V : Type 0} {R : Semiring V} (laws : SemiringLaws R) (N : Numbering V)
 -- what holds of a half that there is
 pub half_has : {X : Type 0} (P : X → Type 0) (m : Option X) (x : X) → m ≡ Some x → MatchOption m (Unit {0}) P → P x
 half_has P m x e h = subst (λ k. MatchOption k (Unit {0}) P) e h
+
+-- in max
+pub refused_first : (op : Op) (v : Value (Option ℤ)) (err : DomErr) →
+    IsAnswer (polyhedra max_ring max_numbering false) (Apply op v) (Err err) →
+    IsAnswer (mixed max_ring max_numbering) (Apply op v) (Err err)
+refused_first op v err h = first_refused max_laws max_numbering op v err h

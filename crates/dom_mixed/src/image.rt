@@ -95,6 +95,7 @@ fn second_image(
 
 // The image of the polyhedron over so many variables and their opposites: that by the operation, and of this the one by
 // its second half.
+#[tactic(auto, using(crate::proofs::Halves::refused_first))]
 fn image(
     alloc: Global,
     vars: u32,

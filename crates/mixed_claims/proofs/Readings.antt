@@ -1,10 +1,10 @@
 -- Terms as they are read: where they stand, and how large their numbers are.
-use Rattle.std.proofs.Common.{◌≡◌, ◌<◌, ◌≤◌, ◌*◌, ◌+◌, ◌^◌, ℕ, zero, suc, ℤ, pos, negsuc, neg_ℤ, List, [], ◌∷◌, map, length, refl, sym, ap, ◌∙◌, subst, subst₂, arith}
+use Rattle.std.proofs.Common.{◌≡◌, ◌<◌, ◌*◌, ◌^◌, ℕ, zero, suc, ℤ, pos, negsuc, neg_ℤ, List, [], ◌∷◌, map, length, refl, sym, ap, ◌∙◌, subst, subst₂, arith}
 use Rattle.std.specs.Prelude.{◌↔◌, All, IsTrue, false, unsigned_abs}
 use Rattle.trop_theory.specs.Semiring.{Semiring, SemiringLaws, Le}
 use Rattle.trop_theory.specs.Vectors.{dot, AreWide}
 use Rattle.trop_theory.specs.Numbers.{Numbering, NumericLaws}
-use Rattle.trop_theory.specs.Inequalities.{Inequality, IsIn, IsTrueAt, IsValidOn}
+use Rattle.trop_theory.specs.Inequalities.{IsIn, IsTrueAt, IsValidOn}
 use Rattle.trop_theory.specs.Combinations.{IsCombination}
 use Rattle.trop_cones.proofs.Cones.{valid_is_rows}
 use Rattle.prog_theory.specs.States as theory

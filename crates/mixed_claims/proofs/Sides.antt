@@ -1,5 +1,5 @@
 -- What is told of the terms of the code is told of those of the sides that they stand for.
-use Rattle.std.proofs.Common.{◌≡◌, ◌⊎◌, inl, inr, ⊎_elim, true, false, true≢false, refl, sym, ◌∙◌, subst₂, ℕ, List, map, get_or}
+use Rattle.std.proofs.Common.{◌≡◌, ◌⊎◌, inl, inr, ⊎_elim, true, false, true≢false, sym, ◌∙◌, subst₂, ℕ, List, map, get_or}
 use Rattle.std.specs.Prelude.{◌↔◌, Bool, IsTrue, All, Any}
 use Rattle.trop_theory.specs.Semiring.{Semiring}
 use Rattle.trop_theory.specs.Numbers.{Numbering}

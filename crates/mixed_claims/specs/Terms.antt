@@ -7,12 +7,15 @@ use Rattle.trop_theory.specs.Inequalities.{Inequality}
 use Rattle.cone_reports.specs.Sides.{side, at_most}
 use Rattle.trop_row.specs.Lists.{RowList}
 use Rattle.prog_theory.specs.States as theory
-use Rattle.prog_theory.specs.Statements.{Greatest, Least, Side, Claim}
+use Rattle.prog_theory.specs.Statements as words
+use Rattle.prog_theory.specs.Statements.{SideWord, Greatest, Least, Side, Claim}
 use Rattle.prog_theory.specs.Within.{IsNumberWithin}
 use Rattle.prog_tree.specs.Terms.{term_of}
 use Rattle.prog_tree.specs.declared.term.Term.{Term}
 use Rattle.mixed_theory.specs.Twins.{opposite_term}
 use Rattle.mixed_theory.specs.Claims.{IsReadAs, IsSumBelow, IsOppositeBelow, IsPairBelow, IsEachBelow, IsSomeBelow}
+use Rattle.mixed_claims.specs.declared.pairs.Pairs.{Pairs}
+use Rattle.mixed_claims.specs.declared.pairs.Pairs.TheVariants.{Every, One}
 use Rattle.mixed_claims.specs.declared.sums.Reading.{Reading}
 use Rattle.mixed_claims.specs.declared.sums.Reading.TheVariants.{Own, Opposite}
 
@@ -53,10 +56,21 @@ IsAlikeBelow R N d rows l r =
     ⊎ ((IsReadAs Least l × IsReadAs Least r)
     × IsOppositeBelow R N d rows.n (IsCombination R rows.n rows.rows) l.terms r.terms)
 
+-- the first terms are at most the others by these pairs of them, on the combinations of the rows
+abbrev pub ArePairsBelow : {V : Type 0} → Semiring V → Numbering V → ℕ → RowList V → Pairs → List theory.Term
+    → List theory.Term → Type 0
+ArePairsBelow R N d rows Every ls rs = IsEachBelow R N d rows.n (IsCombination R rows.n rows.rows) ls rs
+ArePairsBelow R N d rows One ls rs = IsSomeBelow R N d rows.n (IsCombination R rows.n rows.rows) ls rs
+
+-- the pairs that are asked for where the first side is read with this word: some pair shows that its least is at most the
+-- greatest of the other, and each pair that its greatest is at most the least
+abbrev pub pairs_for : SideWord → Pairs
+pairs_for Least = One
+pairs_for Greatest = Every
+pairs_for words.One = Every
+
 -- where one is read as its greatest and the other as its least
 abbrev pub IsMixedBelow : {V : Type 0} → Semiring V → Numbering V → ℕ → RowList V → Side → Side → Type 0
 IsMixedBelow R N d rows l r =
-    ((IsReadAs Greatest l × IsReadAs Least r)
-    × IsEachBelow R N d rows.n (IsCombination R rows.n rows.rows) l.terms r.terms)
-    ⊎ ((IsReadAs Least l × IsReadAs Greatest r)
-    × IsSomeBelow R N d rows.n (IsCombination R rows.n rows.rows) l.terms r.terms)
+    ((IsReadAs Greatest l × IsReadAs Least r) × ArePairsBelow R N d rows Every l.terms r.terms)
+    ⊎ ((IsReadAs Least l × IsReadAs Greatest r) × ArePairsBelow R N d rows One l.terms r.terms)

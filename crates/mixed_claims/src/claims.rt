@@ -7,9 +7,9 @@ ghost use Rattle.prog_theory.specs.Statements.{Greatest, Least};
 ghost use Rattle.prog_tree.specs.Claims.{claim_of};
 ghost use Rattle.prog_tree.specs.Words.{word_of};
 ghost use Rattle.mixed_theory.specs.Claims.{IsReadAs, IsSumBelow, IsOppositeBelow, IsEachBelow, IsSomeBelow, IsSideBelow, IsProvedOn};
-ghost use Rattle.mixed_claims.specs.Terms.{IsTermOf, IsClaimOf, IsAlikeBelow, IsMixedBelow};
+ghost use Rattle.mixed_claims.specs.Terms.{IsTermOf, IsClaimOf, IsAlikeBelow, IsMixedBelow, ArePairsBelow, pairs_for};
 
-use crate::pairs::{is_each_below, is_some_below};
+use crate::pairs::{Pairs, is_each_below, is_some_below};
 use crate::sums::{Reading, is_sum_below};
 use prog_tree::{Claim, Rel, Side, SideWord};
 use trop_row::Gens;
@@ -78,6 +78,27 @@ fn some_below<S: Numeric>(vars: u32, left: &Side, right: &Side, rows: &Gens<S>) 
     is_some_below(vars, first, second, rows)
 }
 
+// Whether the first side is at most the second by these pairs of terms.
+fn pairs_below<S: Numeric>(
+    pairs: Pairs,
+    vars: u32,
+    left: &Side,
+    right: &Side,
+    rows: &Gens<S>,
+) -> bool
+    requires few { vars ≤ 31 }
+    requires left_fits { All (IsTermOf vars) left.now.terms }
+    requires right_fits { All (IsTermOf vars) right.now.terms }
+    requires wide { rows.now.n ≡ suc (2 * vars) }
+    requires size { rows_size S.ring rows.now.rows ≤ most_entry }
+    ensures { IsTrue result ↔ ArePairsBelow S.ring S.numbering vars rows.now pairs left.now.terms right.now.terms }
+{
+    match pairs {
+        Pairs::Every => each_below(vars, left, right, rows),
+        Pairs::One => some_below(vars, left, right, rows),
+    }
+}
+
 // Whether both sides are read as those with these words.
 fn are_read_as(left: &Side, word: SideWord, right: &Side, other: SideWord) -> bool
     ensures { IsTrue result ↔ (IsReadAs (word_of word) left.now × IsReadAs (word_of other) right.now) }
@@ -114,32 +135,34 @@ fn least_by_least<S: Numeric>(vars: u32, left: &Side, right: &Side, rows: &Gens<
         && opposites_below(vars, left, right, rows)
 }
 
-// Whether the sides are so read, and the greatest of the first side is at most the least of the other, by each pair of terms.
-fn greatest_by_least<S: Numeric>(vars: u32, left: &Side, right: &Side, rows: &Gens<S>) -> bool
-    requires few { vars ≤ 31 }
-    requires left_fits { All (IsTermOf vars) left.now.terms }
-    requires right_fits { All (IsTermOf vars) right.now.terms }
-    requires wide { rows.now.n ≡ suc (2 * vars) }
-    requires size { rows_size S.ring rows.now.rows ≤ most_entry }
-    ensures { IsTrue result ↔ ((IsReadAs Greatest left.now × IsReadAs Least right.now)
-        × IsEachBelow S.ring S.numbering vars rows.now.n (IsCombination S.ring rows.now.n rows.now.rows) left.now.terms
-        right.now.terms) }
+// The pairs that are asked for where the first side is read as its greatest or as its least, and the other one otherwise.
+fn pairs_asked(word: SideWord) -> Pairs
+    ensures { result ≡ pairs_for (word_of word) }
 {
-    are_read_as(left, SideWord::Max, right, SideWord::Min) && each_below(vars, left, right, rows)
+    match word {
+        SideWord::Min => Pairs::One,
+        SideWord::Max | SideWord::One => Pairs::Every,
+    }
 }
 
-// Whether the sides are so read, and the least of the first side is at most the greatest of the other, by some pair of terms.
-fn least_by_greatest<S: Numeric>(vars: u32, left: &Side, right: &Side, rows: &Gens<S>) -> bool
+// Whether the sides are so read, and the first is at most the second by the pairs of terms that are asked for then.
+fn by_pairs<S: Numeric>(
+    word: SideWord,
+    other: SideWord,
+    vars: u32,
+    left: &Side,
+    right: &Side,
+    rows: &Gens<S>,
+) -> bool
     requires few { vars ≤ 31 }
     requires left_fits { All (IsTermOf vars) left.now.terms }
     requires right_fits { All (IsTermOf vars) right.now.terms }
     requires wide { rows.now.n ≡ suc (2 * vars) }
     requires size { rows_size S.ring rows.now.rows ≤ most_entry }
-    ensures { IsTrue result ↔ ((IsReadAs Least left.now × IsReadAs Greatest right.now)
-        × IsSomeBelow S.ring S.numbering vars rows.now.n (IsCombination S.ring rows.now.n rows.now.rows) left.now.terms
-        right.now.terms) }
+    ensures { IsTrue result ↔ ((IsReadAs (word_of word) left.now × IsReadAs (word_of other) right.now)
+        × ArePairsBelow S.ring S.numbering vars rows.now (pairs_for (word_of word)) left.now.terms right.now.terms) }
 {
-    are_read_as(left, SideWord::Min, right, SideWord::Max) && some_below(vars, left, right, rows)
+    are_read_as(left, word, right, other) && pairs_below(pairs_asked(word), vars, left, right, rows)
 }
 
 // Whether the first side is at most the second where both are read alike.
@@ -163,7 +186,8 @@ fn is_mixed_below<S: Numeric>(vars: u32, left: &Side, right: &Side, rows: &Gens<
     requires size { rows_size S.ring rows.now.rows ≤ most_entry }
     ensures { IsTrue result ↔ IsMixedBelow S.ring S.numbering vars rows.now left.now right.now }
 {
-    greatest_by_least(vars, left, right, rows) || least_by_greatest(vars, left, right, rows)
+    by_pairs(SideWord::Max, SideWord::Min, vars, left, right, rows)
+        || by_pairs(SideWord::Min, SideWord::Max, vars, left, right, rows)
 }
 
 // Whether the first side is at most the second, as one of the readings of their words proves it.

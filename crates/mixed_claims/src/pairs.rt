@@ -12,6 +12,15 @@ use prog_tree::Term;
 use trop_row::Gens;
 use trop_scalar::Numeric;
 
+/// Which pairs of a term of one side and a term of another are asked for.
+#[derive(Clone, Copy)]
+pub(crate) enum Pairs {
+    /// Each of them.
+    Every,
+    /// Some one of them.
+    One,
+}
+
 // Whether the first term is at most the second, by their inequality or by that of their opposites.
 fn is_pair_below<S: Numeric>(vars: u32, left: &Term, right: &Term, rows: &Gens<S>) -> bool
     requires few { vars ≤ 31 }

@@ -1,11 +1,11 @@
-use Rattle.std.proofs.Common.{◌≤◌, ◌*◌, sym, ap, subst, arith}
-use Rattle.trop_theory.specs.MaxPlus.{max_ring, max_numbering}
+use Rattle.std.proofs.Common.{sym, ap, subst, arith}
+use Rattle.trop_theory.specs.MaxPlus.{max_numbering}
 use Rattle.trop_theory.proofs.MaxPlusLaws.{max_laws}
 use Rattle.prog_theory.specs.Fits.{FitsOp}
 use Rattle.prog_graph.specs.Views.{op_of}
 use Rattle.mixed_theory.specs.Halves.{second_half}
 use Rattle.mixed_theory.proofs.Halves.{first_fits}
-use Rattle.dom_mixed.proofs.Halves.{first_refused, answered}
+use Rattle.dom_mixed.proofs.Halves.{answered}
 use Rattle.dom_mixed.proofs.image.image.Goals as goal
 
 pub apply-requires-clause-fits : goal.apply-requires-clause-fits
@@ -26,7 +26,3 @@ returns-in-Ok c =
     (subst (λ d. FitsOp d op) c.requires.variables c.requires.fits) c.in-Ok.between c.in-Ok.ensures
     (second_half c.args.vars op) (ap (λ d. second_half d op) (sym c.requires.variables)) c.second_image.result
     c.second_image.ensures
-
-pub returns-in-Err : goal.returns-in-Err
-returns-in-Err c = first_refused max_laws max_numbering (op_of c.args.op.now) c.args.twin.now c.in-Err.err
-    c.in-Err.ensures

@@ -1,4 +1,4 @@
-use Rattle.std.proofs.Common.{◌≡◌, ◌*◌, suc, ap, sym, subst, ◌∙◌, arith}
+use Rattle.std.proofs.Common.{◌*◌, suc, ap, sym, subst, ◌∙◌, arith}
 use Rattle.trop_theory.specs.Vectors.{rows_size}
 use Rattle.trop_theory.specs.MaxPlus.{max_ring, max_numbering}
 use Rattle.prog_tree.specs.Claims.{claim_of}

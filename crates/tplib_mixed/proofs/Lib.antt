@@ -1,0 +1,4 @@
+pub mod Laws
+pub mod Inequalities
+pub mod Reports
+pub mod Refusals
