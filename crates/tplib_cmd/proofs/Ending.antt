@@ -6,9 +6,11 @@ use Rattle.trop_io.specs.Faults.{Rose}
 use Rattle.trop_words.specs.Words.{IsSpelled}
 use Rattle.trop_words.specs.declared.command.Command.{Command}
 use Rattle.trop_words.specs.declared.command.Command.TheVariants.{Reduce, Ext, Int, Tangent, Include, Equal, Join, Meet, Forget, Trace, Analyze, Check, Sample}
+use Rattle.trop_words.specs.declared.command.Mode.TheVariants.{Max, Min, Mixed, Zone}
 use Rattle.trop_text.specs.declared.fault.Fault.{Fault}
 use Rattle.tplib_reply.specs.Meaning.{IsRunnable, OverLimit, OutOfRange}
 use Rattle.tplib_poly.proofs.Late.{forget_apart}
+use Rattle.tplib_cmd.proofs.Wide.{mixed_apart}
 use Rattle.tplib_cmd.specs.declared.status.Status.{Status}
 use Rattle.tplib_cmd.specs.declared.status.Status.TheVariants.{Done, No, BadWords, Text, TooLong, Limit, Range, ReadFault, WriteFault, NoMemory}
 use Rattle.tplib_cmd.specs.Commands.{IsInRange, Said, reads, meaning_of}
@@ -70,7 +72,10 @@ faulty Join bytes fault said h s = h.first.spelled said s
 faulty Meet bytes fault said h s = h.first.spelled said s
 faulty (Forget var) bytes fault said h s = forget_apart var.now bytes fault said h s
 faulty (Trace turns) bytes fault said h s = h.first.spelled said s
-faulty (Analyze mode delay narrow) bytes fault said h s = h.first.spelled said s
+faulty (Analyze Max delay narrow) bytes fault said h s = h.first.spelled said s
+faulty (Analyze Min delay narrow) bytes fault said h s = h.first.spelled said s
+faulty (Analyze Mixed delay narrow) bytes fault said h s = mixed_apart delay narrow bytes fault said h s
+faulty (Analyze Zone delay narrow) bytes fault said h s = h.first.spelled said s
 faulty Check bytes fault said h s = h.spelled said s
 faulty (Sample seed vars rows) bytes fault said h s = h
 

@@ -1,2 +1,3 @@
+mod Wide
 pub mod Writing
 pub mod Ending

@@ -21,9 +21,8 @@ use Rattle.tplib_poly.specs.Sample.{Numbers, sample_meaning}
 use Rattle.tplib_lean.specs.Lean.{lean_meaning}
 use Rattle.tplib_tangent.specs.Tangent.{tangent_meaning}
 use Rattle.tplib_progs.specs.Trace.{trace_meaning}
-use Rattle.tplib_analyze.specs.Modes.{mode_of}
-use Rattle.tplib_analyze.specs.Analyze.{analyze_meaning}
 use Rattle.tplib_check.specs.Check.{check_meaning}
+use Rattle.tplib_cmd.specs.Analyses.{analysis_meaning}
 
 -- the words spell this command
 pub record IsCommand (words : List (List ℕ)) (command : Command) : Type 0 where
@@ -89,6 +88,6 @@ meaning_of Join = pair_meaning pair.Join
 meaning_of Meet = pair_meaning pair.Meet
 meaning_of (Forget var) = forget_meaning var.now
 meaning_of (Trace turns) = trace_meaning turns
-meaning_of (Analyze mode delay narrow) = analyze_meaning (mode_of mode) delay narrow
+meaning_of (Analyze mode delay narrow) = analysis_meaning mode delay narrow
 meaning_of Check = check_meaning
 meaning_of (Sample seed vars rows) = sample_meaning seed vars rows

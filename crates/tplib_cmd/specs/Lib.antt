@@ -1,4 +1,5 @@
 pub mod Status
 pub mod Streams
+pub mod Analyses
 pub mod Commands
 pub mod Ends

@@ -2,19 +2,22 @@
 ghost use Rattle.std.specs.Prelude.{◌≡◌, ◌≤◌, false, [], ◌^◌, length, IfOk, IfErr};
 ghost use Rattle.trop_words.specs.declared.command.Command.{Command};
 ghost use Rattle.trop_words.specs.declared.command.Command.TheVariants.{Int};
+ghost use Rattle.tplib_cmd.specs.Analyses.{analysis_meaning};
 ghost use Rattle.tplib_reply.specs.Meaning.{IsReply, IsRefused};
 ghost use Rattle.tplib_cmd.specs.Commands.{IsInRange, reads, meaning_of};
 
 use std::alloc::Global;
-use tplib_analyze::analyze_reply;
+use tplib_analyze::{max_reply, min_reply};
 use tplib_check::check_reply;
 use tplib_cones::{ext_reply, reduce_reply};
 use tplib_lean::lean_reply;
+use tplib_mixed::mixed_reply;
 use tplib_poly::{PairCommand, forget_reply, int_reply, pair_reply, sample_reply};
 use tplib_progs::trace_reply;
 use tplib_reply::{Refusal, Reply};
 use tplib_tangent::tangent_reply;
-use trop_words::Command;
+use tplib_zone::zone_reply;
+use trop_words::{Command, Mode};
 
 // The answer of the command to the bytes of its input.
 pub(crate) fn answer(alloc: Global, command: Command<'_>, bytes: &[u8]) -> Result<Reply, Refusal>
@@ -40,7 +43,7 @@ pub(crate) fn answer(alloc: Global, command: Command<'_>, bytes: &[u8]) -> Resul
             mode,
             delay,
             narrow,
-        } => analyze_reply(alloc, mode, delay, narrow, bytes),
+        } => analysis_answer(alloc, mode, delay, narrow, bytes),
         Command::Check => check_reply(alloc, bytes),
     }
 }
@@ -55,5 +58,27 @@ fn list_answer(alloc: Global, lean: bool, bytes: &[u8]) -> Result<Reply, Refusal
         lean_reply(alloc, bytes)
     } else {
         int_reply(alloc, bytes)
+    }
+}
+
+// The answer of `analyze` in each mode.
+fn analysis_answer(
+    alloc: Global,
+    mode: Mode,
+    delay: u32,
+    narrow: u32,
+    bytes: &[u8],
+) -> Result<Reply, Refusal>
+    requires delay { delay ≤ 1000 }
+    requires narrow { narrow ≤ 100 }
+    requires short { length bytes.now ≤ 2 ^ 31 }
+    ensures reply { IfOk result (IsReply (analysis_meaning mode delay narrow) bytes.now) }
+    ensures refused { IfErr result (IsRefused (analysis_meaning mode delay narrow) bytes.now) }
+{
+    match mode {
+        Mode::Max => max_reply(alloc, delay, narrow, bytes),
+        Mode::Min => min_reply(alloc, delay, narrow, bytes),
+        Mode::Mixed => mixed_reply(alloc, delay, narrow, bytes),
+        Mode::Zone => zone_reply(alloc, delay, narrow, bytes),
     }
 }

@@ -109,19 +109,19 @@ trace_reply-requires-clause-turns c = subst IsInRange c.in-Trace.is c.requires.r
 
 pub returns-in-Analyze-clause-reply : goal.returns-in-Analyze-clause-reply
 returns-in-Analyze-clause-reply c =
-    subst (λ command. IfOk c.analyze_reply.result (IsReply (meaning_of command) c.args.bytes.now))
-    (sym c.in-Analyze.is) c.analyze_reply.ensures.reply
+    subst (λ command. IfOk c.analysis_answer.result (IsReply (meaning_of command) c.args.bytes.now))
+    (sym c.in-Analyze.is) c.analysis_answer.ensures.reply
 
 pub returns-in-Analyze-clause-refused : goal.returns-in-Analyze-clause-refused
 returns-in-Analyze-clause-refused c =
-    subst (λ command. IfErr c.analyze_reply.result (IsRefused (meaning_of command) c.args.bytes.now))
-    (sym c.in-Analyze.is) c.analyze_reply.ensures.refused
+    subst (λ command. IfErr c.analysis_answer.result (IsRefused (meaning_of command) c.args.bytes.now))
+    (sym c.in-Analyze.is) c.analysis_answer.ensures.refused
 
-pub analyze_reply-requires-clause-delay : goal.analyze_reply-requires-clause-delay
-analyze_reply-requires-clause-delay c = (subst IsInRange c.in-Analyze.is c.requires.range).0
+pub analysis_answer-requires-clause-delay : goal.analysis_answer-requires-clause-delay
+analysis_answer-requires-clause-delay c = (subst IsInRange c.in-Analyze.is c.requires.range).0
 
-pub analyze_reply-requires-clause-narrow : goal.analyze_reply-requires-clause-narrow
-analyze_reply-requires-clause-narrow c = (subst IsInRange c.in-Analyze.is c.requires.range).1
+pub analysis_answer-requires-clause-narrow : goal.analysis_answer-requires-clause-narrow
+analysis_answer-requires-clause-narrow c = (subst IsInRange c.in-Analyze.is c.requires.range).1
 
 pub returns-in-Check-clause-reply : goal.returns-in-Check-clause-reply
 returns-in-Check-clause-reply c =
