@@ -1,4 +1,3 @@
-pub mod Modes
 pub mod Views
 pub mod Family
 pub mod Stops

@@ -3,8 +3,8 @@
 //!
 //! Read `specs/` in this order. The family is what comes of the analysis of the program's control graph by tropical
 //! polyhedra (`Family`); an analysis may stop instead (`Views`, `Stops`). Of a family there is one report (`Defined`).
-//! What it says is true at each visit of each run (`Visits`). What the command means stands in `Analyze`, with the
-//! names of modes in `Modes`. The other pages are for the functions of this crate: how a stop is named (`Stopped`), what
+//! What it says is true at each visit of each run (`Visits`). What the command means stands in `Analyze`. The
+//! other pages are for the functions of this crate: how a stop is named (`Stopped`), what
 //! is made of one point (`Parts`), where the asserts of a statement stand (`Claims`), and the whole report (`Made`).
 #![tactic(auto)]
 
@@ -15,4 +15,4 @@ mod report;
 mod stopped;
 mod verdicts;
 
-pub use analyze::analyze_reply;
+pub use analyze::{max_reply, min_reply};
