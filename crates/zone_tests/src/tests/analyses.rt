@@ -19,7 +19,7 @@ struct Case {
 
 const COUNTING: &str = "vars i; i := 0; while i < 10 { i := i + 1; }";
 
-const CASES: [Case; 7] = [
+const CASES: [Case; 9] = [
     Case {
         name: "counting with one pass of the narrowing",
         program: COUNTING,
@@ -61,6 +61,28 @@ const CASES: [Case; 7] = [
 0:
 1: 1-2<=0 2-1<=0
 2: 1-2<=3 2-1<=-3",
+    },
+    Case {
+        name: "what two variables have in common once a third is forgotten",
+        program: "vars x y z; x := y; z := y + 1; havoc y;",
+        delay: 2,
+        narrow: 0,
+        wanted: "1 passes
+0:
+1: 1-2<=0 2-1<=0
+2: 1-2<=0 1-3<=-1 2-1<=0 2-3<=-1 3-1<=1 3-2<=1
+3: 1-3<=-1 3-1<=1",
+    },
+    Case {
+        name: "the join of two branches",
+        program: "vars x y; if ? { x := y + 1; } else { x := y + 4; }",
+        delay: 2,
+        narrow: 0,
+        wanted: "1 passes
+0:
+1:
+2:
+3: 1-2<=4 2-1<=-1",
     },
     Case {
         name: "a guard that leaves no state",
