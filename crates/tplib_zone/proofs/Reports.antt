@@ -17,7 +17,7 @@ use Rattle.zone_theory.specs.Width.{pairs}
 use Rattle.zone_theory.specs.Domain.{Zone, max_width}
 use Rattle.zone_theory.specs.Relations.{zones}
 use Rattle.zone_theory.proofs.Laws.{zones_laws}
-use Rattle.zone_theory.proofs.Inclusion.{IsZoneOn, zones_inclusion}
+use Rattle.zone_theory.proofs.Inclusion.{zones_inclusion}
 use Rattle.zone_lists.specs.Zones.{ZoneList, zone_of, zone_lists}
 use Rattle.zone_lists.proofs.Laws.{zone_lists_laws}
 use Rattle.zone_lists.proofs.Inclusion.{lists_inclusion}
@@ -25,7 +25,7 @@ use Rattle.dom_family.specs.Family.{FamilyOf, value_in, IsJudgedBy, IsTrueAtVisi
 use Rattle.dom_family.proofs.Lengths.{length-end}
 use Rattle.dom_family.proofs.Family.{each_value, family_is}
 use Rattle.zone_print.specs.Reports.{proves, IsZoneReport}
-use Rattle.tplib_reply.specs.Meaning.{Cause, OverLimit, OutOfRange}
+use Rattle.tplib_reply.specs.Meaning.{Cause}
 use Rattle.tplib_reply.specs.declared.stop.Stop.{Stop}
 use Rattle.tplib_reply.specs.declared.stop.Stop.TheVariants.{Rows, Polar, Lean, At, PointPolar}
 use Rattle.tplib_family.specs.Views.{cause_of, place_of}
