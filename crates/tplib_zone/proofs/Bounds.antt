@@ -12,7 +12,7 @@ use Rattle.tplib_zone.specs.Zone.{IsClosedOn, MeetsMatrix, MeetsBounds}
 
 matrix-met : (d : ℕ) (b : Option Matrix) (s : State) → Has d b s → MeetsMatrix d b s
 matrix-met d None s h = h
-matrix-met d (Some m) s h k e l = zone-limits d m s h (get_or (limits d m) k e)
+matrix-met d (Some m) s h = λ k e l. zone-limits d m s h (get_or (limits d m) k e)
     (k, l, get_or_default (limits d m) k (get_or (limits d m) k e) e l)
 
 pub bounds_met : (x : Zone) (s : State) → HasState x s → MeetsBounds x s

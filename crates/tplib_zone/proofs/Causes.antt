@@ -10,7 +10,7 @@ use Rattle.dom_theory.specs.Outcomes.{Outcome, Gives, Stops, Stop, Then, goes, s
 use Rattle.dom_theory.specs.Parts.{Asks, answered, refused, place_at}
 use Rattle.dom_theory.specs.Sums.{Adds, AddsAll, Sum, before_edges}
 use Rattle.dom_theory.specs.Passes.{Held, Stage, value_at, changes_at, put, HeadStep, keeps, joins, widens, Rises, Settles, Points, Pass}
-use Rattle.dom_theory.specs.Analysis.{Ascent, ends, goes_on, stops as ascent_stops, Risen, End, Narrows, Analysis, at_first}
+use Rattle.dom_theory.specs.Analysis.{Ascent, ends, goes_on, stops as ascent_stops, Risen, Narrows, Analysis, at_first}
 
 -- a part for which a call is made
 abbrev pub IsAsked : Part → Type 0

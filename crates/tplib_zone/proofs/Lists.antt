@@ -14,7 +14,7 @@ use Rattle.zone_lists.specs.Zones.{ZoneList, matrix_in, matrix_if, zone_of, empt
 use Rattle.zone_lists.proofs.Laws.{whole-zone}
 use Rattle.tplib_zone.proofs.Standing.{Stands, call_by, outcome_by, end_by, analysis_stands}
 
-list : ℕ → Option (List Bound) → Option (List Bound) → ZoneList
+abbrev list : ℕ → Option (List Bound) → Option (List Bound) → ZoneList
 list vars bounds kept = record { vars = vars; bounds = bounds; kept = kept }
 
 none-list : (d : ℕ) (b : Option (List Bound)) → matrix_if d b ≡ None → b ≡ None

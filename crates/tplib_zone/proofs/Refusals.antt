@@ -2,9 +2,7 @@
 use Rattle.std.proofs.Common.{◌≡◌, ℕ, subst}
 use Rattle.prog_theory.specs.ControlGraphs.{ControlGraph, graph_of}
 use Rattle.prog_theory.specs.Named.{Named, nameless}
-use Rattle.dom_theory.specs.Places as theory
-use Rattle.dom_theory.specs.Relations.{Cause, OverLimit, OutOfRange}
-use Rattle.dom_theory.specs.Outcomes.{Stops}
+use Rattle.dom_theory.specs.Relations.{OverLimit, OutOfRange}
 use Rattle.dom_theory.specs.Analysis.{Analysis}
 use Rattle.zone_theory.specs.Relations.{zones}
 use Rattle.zone_lists.specs.Zones.{zone_lists}

@@ -1,5 +1,5 @@
 -- The report of a family of zones.
-use Rattle.std.proofs.Common.{◌≡◌, ◌≤◌, ◌+◌, ◌*◌, ◌∙◌, ℕ, true, List, Some, Contains, length, map, ap, sym, subst, refl, arith}
+use Rattle.std.proofs.Common.{◌≡◌, ◌≤◌, ◌+◌, ◌*◌, ℕ, true, List, Some, Contains, length, map, ap, subst, refl, arith}
 use Rattle.std.specs.Prelude.{Bool, All, slice_get, MatchOption, IsSomeAnd}
 use Rattle.std.specs.List.{AllZip}
 use Rattle.std.proofs.lemmas.Slice.Zip.{AllZip-left}
@@ -8,16 +8,16 @@ use Rattle.prog_theory.specs.Limits.{program_limits}
 use Rattle.prog_theory.specs.Heads.{heads}
 use Rattle.prog_theory.specs.Named.{Named, nameless}
 use Rattle.prog_theory.specs.Graph.{points}
-use Rattle.prog_theory.specs.ControlGraphs.{graph_of}
+use Rattle.prog_theory.specs.ControlGraphs.{ControlGraph, graph_of}
 use Rattle.prog_theory.specs.Within.{IsWithin}
 use Rattle.dom_theory.specs.Outcomes.{Gives}
-use Rattle.dom_theory.specs.Analysis.{End}
+use Rattle.dom_theory.specs.Analysis.{End, Analysis}
 use Rattle.cone_reports.specs.Asserts.{Assertion, asserts}
 use Rattle.zone_theory.specs.Width.{pairs}
 use Rattle.zone_theory.specs.Domain.{Zone, max_width}
 use Rattle.zone_theory.specs.Relations.{zones}
 use Rattle.zone_theory.proofs.Laws.{zones_laws}
-use Rattle.zone_theory.proofs.Inclusion.{IsZoneOn, zones_inclusion}
+use Rattle.zone_theory.proofs.Inclusion.{zones_inclusion}
 use Rattle.zone_lists.specs.Zones.{ZoneList, zone_of, zone_lists}
 use Rattle.zone_lists.proofs.Laws.{zone_lists_laws}
 use Rattle.zone_lists.proofs.Inclusion.{lists_inclusion}
@@ -25,7 +25,7 @@ use Rattle.dom_family.specs.Family.{FamilyOf, value_in, IsJudgedBy, IsTrueAtVisi
 use Rattle.dom_family.proofs.Lengths.{length-end}
 use Rattle.dom_family.proofs.Family.{each_value, family_is}
 use Rattle.zone_print.specs.Reports.{proves, IsZoneReport}
-use Rattle.tplib_reply.specs.Meaning.{Cause, OverLimit, OutOfRange}
+use Rattle.tplib_reply.specs.Meaning.{Cause}
 use Rattle.tplib_reply.specs.declared.stop.Stop.{Stop}
 use Rattle.tplib_reply.specs.declared.stop.Stop.TheVariants.{Rows, Polar, Lean, At, PointPolar}
 use Rattle.tplib_family.specs.Views.{cause_of, place_of}
@@ -35,6 +35,18 @@ use Rattle.tplib_zone.proofs.Standing.{end_by}
 use Rattle.tplib_zone.proofs.Lists.{zones_come}
 use Rattle.tplib_zone.proofs.Laws.{claim_laws}
 use Rattle.tplib_zone.proofs.Bounds.{bounds_met, zone_closed}
+
+-- the graph of the code is that of the program
+pub family_gives : (p : Named) (G : ControlGraph) → G ≡ graph_of (nameless p) → (delay narrow : ℕ) (end : End ZoneList) →
+    Analysis zone_lists G delay narrow (Gives end) → FamilyOf zone_lists delay narrow p (Gives end)
+family_gives p G is delay narrow end h =
+    subst (λ (g : ControlGraph). Analysis zone_lists g delay narrow (Gives end)) is h
+
+pub passes_bound : (p : Named) (G : ControlGraph) → G ≡ graph_of (nameless p) → (delay passes : ℕ) →
+    passes ≤ length G.heads * (delay + max_width G.vars + 1) + 1 →
+    passes ≤ length (heads (nameless p)) * (delay + max_width (length p.names) + 1) + 1
+passes_bound p G is delay passes h =
+    subst (λ (g : ControlGraph). passes ≤ length g.heads * (delay + max_width g.vars + 1) + 1) is h
 
 -- of the values in lists
 module _ (p : Named) (kept : IsWithin program_limits p) (delay narrow : ℕ) (end : End ZoneList)
@@ -91,7 +103,7 @@ module _ (p : Named) (kept : IsWithin program_limits p) (delay narrow : ℕ) (en
         slice_get verdicts k ≡ Some true → IsTrueAtVisits p a
     claims k a is says =
         let xs = asserts (nameless p) in
-        let listed : Contains xs a = (k, slice_get_within xs k a is, sym (get_or_from_slice_get xs k a a is)) in
+        let listed : Contains xs a = (k, slice_get_within xs k a is, get_or_from_slice_get xs k a a is) in
         true_of a listed ((judged_at k a is says).0 refl)
 
   pub report : (text : List ℕ) → end.passes ≤ length (heads (nameless p)) * (delay + max_width d + 1) + 1 →

@@ -1,5 +1,5 @@
 -- A domain whose values stand for those of another: an analysis by the first is one by the second, value by value.
-use Rattle.std.proofs.Common.{◌≡◌, ◌⊎◌, inl, inr, ◌+◌, ◌∙◌, ℕ, zero, suc, List, [], ◌∷◌, map, length, get_or, replicate, refl, sym, subst, ap, ap₂, Bool, true, false, MatchBool, ◌==◌}
+use Rattle.std.proofs.Common.{◌≡◌, inl, inr, ◌+◌, ◌∙◌, ℕ, zero, suc, List, [], ◌∷◌, map, length, get_or, replicate, refl, sym, subst, ap, Bool, true, false, MatchBool, ◌==◌}
 use Rattle.std.specs.Prelude.{◌↔◌, slice_set}
 use Rattle.prog_theory.specs.Edges.{Op, Edge}
 use Rattle.prog_theory.specs.ControlGraphs.{ControlGraph, is_head}
@@ -8,7 +8,7 @@ use Rattle.dom_theory.specs.Places.{Part, Spot}
 use Rattle.dom_theory.specs.Places.{Edge as EdgePart, Sum as SumPart, Head}
 use Rattle.dom_theory.specs.Relations.{Relations, Call, Apply, Join, Widen, Cause}
 use Rattle.dom_theory.specs.Answers.{IsResult}
-use Rattle.dom_theory.specs.Outcomes.{Outcome, Gives, Stops, Stop, Then, goes, stops, Is}
+use Rattle.dom_theory.specs.Outcomes.{Outcome, Gives, Stops, Then, goes, stops, Is}
 use Rattle.dom_theory.specs.Parts.{Asks, answered, refused}
 use Rattle.dom_theory.specs.Sums.{Adds, AddsAll, Sum, before_edges}
 use Rattle.dom_theory.specs.Passes.{Held, Stage, value_at, changes_at, put, HeadStep, keeps, joins, widens, Rises, Settles, Points, Pass}

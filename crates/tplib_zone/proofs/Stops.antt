@@ -1,14 +1,13 @@
 -- Where an analysis by zones stops, a bound is out of range.
-use Rattle.std.proofs.Common.{◌≡◌, ◌∙◌, ℕ, subst, sym}
+use Rattle.std.proofs.Common.{◌≡◌, ℕ, subst, sym}
 use Rattle.prog_theory.specs.ControlGraphs.{ControlGraph}
-use Rattle.dom_theory.specs.Refusals.{At, Whole, Polar, Kept}
-use Rattle.dom_theory.specs.Places.{Part, Spot}
+use Rattle.dom_theory.specs.Refusals.{At}
+use Rattle.dom_theory.specs.Places.{Part}
 use Rattle.dom_theory.specs.Places.{Edge as EdgePart, Sum as SumPart, Head, Polar as PolarPart, Kept as KeptPart}
 use Rattle.dom_theory.specs.Relations.{Call, Apply, Join, Widen, Cause, OutOfRange}
 use Rattle.dom_theory.specs.Outcomes.{Stop, Stops}
-use Rattle.dom_theory.specs.Parts.{part_at, place_at}
+use Rattle.dom_theory.specs.Parts.{part_at}
 use Rattle.dom_theory.specs.Analysis.{Analysis}
-use Rattle.zone_theory.specs.Width.{numbers}
 use Rattle.zone_theory.specs.Domain.{Zone}
 use Rattle.zone_theory.specs.Relations.{IsRefused, zones}
 use Rattle.tplib_zone.proofs.Causes.{IsAsked, analysis_tells}

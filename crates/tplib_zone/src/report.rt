@@ -1,5 +1,6 @@
 //! The short report of a program's family of zones, as text.
 ghost use Rattle.std.specs.Prelude.{◌≤◌, IfOk, IfErr, OnOk};
+ghost use Rattle.prog_tree.specs.Programs.{IsProgram};
 ghost use Rattle.zone_theory.specs.Relations.{zones};
 ghost use Rattle.dom_family.specs.Family.{FamilyOf};
 ghost use Rattle.tplib_reply.specs.Meaning.{Cause};
@@ -23,6 +24,7 @@ pub(crate) fn report_text(
     delay: u32,
     narrow: u32,
 ) -> Result<Vec<u8>, Refusal>
+    requires kept { IsProgram program.now }
     requires delay { delay ≤ 1000 }
     requires narrow { narrow ≤ 100 }
     ensures text { IfOk result (λ text. IsZoneText delay narrow program.now text.items) }
