@@ -63,9 +63,9 @@ const BAD_WORDS: [&str; 53] = [
 
 // Modes of analyses that are in no table of words.
 const OTHER_MODES: [&str; 3] = [
-    "analyze mode=mixed",
-    "analyze mode=zone",
-    "analyze mode=zone delay=2",
+    "analyze mode=interval",
+    "analyze mode=zone mode=mixed",
+    "analyze mode=Zone delay=2",
 ];
 
 const LINE: &[u8] = b"tplib: bad words\n";
