@@ -1,5 +1,5 @@
 -- What is printed of a value is true at its states.
-use Rattle.std.proofs.Common.{◌≡◌, ◌<◌, ◌≤◌, ◌∙◌, ℕ, List, [], ◌∷◌, Option, length, get_or, inl, inr, ⊎_elim, sym, ap, subst, arith}
+use Rattle.std.proofs.Common.{◌≡◌, ℕ, List, [], ◌∷◌, Option, length, get_or, ⊎_elim, sym, ap, subst, arith}
 use Rattle.std.specs.Prelude.{ℤ, All}
 use Rattle.std.specs.List.{AllZip}
 use Rattle.std.proofs.lemmas.Bool.{cases_lt}
@@ -28,7 +28,7 @@ bounds_true : (v : Value Element) → IsValue max_ring v → (x : List Element) 
     (rows : List (List Element)) (printed : List (Inequality Element)) → AreBoundsOf v rows printed →
     AreTrueAt x printed
 bounds_true v value x has [] printed none = none_printed x printed none
-bounds_true v value x has (y ∷ rows) printed external k d l =
+bounds_true v value x has (y ∷ rows) printed external = λ k d l.
     external_valid max_laws (coordinates v) (cone_of max_ring v)
     (λ z h. IsCombination-length max_laws (coordinates v) v.rows z value.wide h) (coordinates v) printed external k d l
     x has

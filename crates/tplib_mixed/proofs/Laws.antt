@@ -1,5 +1,5 @@
 -- A claim that a value proves is true of its states.
-use Rattle.std.proofs.Common.{◌≡◌, ◌*◌, ◌/◌, ◌∙◌, ℕ, false, ap, sym, subst}
+use Rattle.std.proofs.Common.{◌≡◌, ◌/◌, ◌∙◌, ℕ, false, ap, sym, subst}
 use Rattle.std.specs.Prelude.{All}
 use Rattle.trop_theory.specs.Semiring.{Semiring, SemiringLaws}
 use Rattle.trop_theory.specs.Numbers.{Numbering, NumericLaws}

@@ -1,24 +1,22 @@
 -- The report of a family.
-use Rattle.std.proofs.Common.{◌≡◌, ◌≤◌, ◌<◌, ◌+◌, ◌*◌, ◌∙◌, ℕ, true, List, Option, Some, Contains, length, get_or, ap, sym, subst, refl, arith}
-use Rattle.std.specs.Prelude.{◌↔◌, ℤ, Bool, All, slice_get, MatchOption, IsSomeAnd}
+use Rattle.std.proofs.Common.{◌≡◌, ◌≤◌, ◌<◌, ◌+◌, ◌*◌, ℕ, true, List, Option, Some, Contains, length, ap, subst, refl, arith}
+use Rattle.std.specs.Prelude.{ℤ, Bool, All, slice_get, MatchOption, IsSomeAnd}
 use Rattle.std.specs.List.{AllZip}
 use Rattle.std.proofs.lemmas.Slice.Zip.{AllZip-left}
 use Rattle.std.proofs.lemmas.Option.{slice_get_within, get_or_from_slice_get}
-use Rattle.std.proofs.lemmas.List.{get_or_default}
 use Rattle.trop_theory.specs.MaxPlus.{max_ring, max_numbering}
 use Rattle.trop_theory.proofs.MaxPlusLaws.{max_laws, max_numeric_laws}
-use Rattle.prog_theory.specs.States.{State}
 use Rattle.prog_theory.specs.Limits.{program_limits}
+use Rattle.prog_theory.specs.Graph.{points}
 use Rattle.prog_theory.specs.Heads.{heads}
 use Rattle.prog_theory.specs.Named.{Named, nameless}
-use Rattle.prog_theory.specs.ControlGraphs.{graph_of}
-use Rattle.prog_theory.specs.PointVisits.{Visits}
+use Rattle.prog_theory.specs.ControlGraphs.{ControlGraph, graph_of}
 use Rattle.prog_theory.specs.Within.{IsWithin}
 use Rattle.dom_theory.specs.Relations.{Relations}
 use Rattle.dom_theory.specs.Laws.{DomainLaws}
 use Rattle.dom_theory.specs.Inclusion.{InclusionLaws}
 use Rattle.dom_theory.specs.Outcomes.{Outcome, Gives}
-use Rattle.dom_theory.specs.Analysis.{End}
+use Rattle.dom_theory.specs.Analysis.{End, Analysis}
 use Rattle.dom_theory.proofs.Unique.{analysis_is_one}
 use Rattle.cone_reports.specs.Asserts.{Assertion, asserts}
 use Rattle.cone_domain.specs.Values.{Value}
@@ -28,6 +26,7 @@ use Rattle.mixed_theory.specs.Mixed.{mixed, IsProvedBy}
 use Rattle.mixed_theory.proofs.Laws.{mixed_laws}
 use Rattle.mixed_theory.proofs.Inclusion.{IsMixedOn, mixed_inclusion}
 use Rattle.dom_family.specs.Family.{FamilyOf, value_in, IsJudgedBy, IsTrueAtVisits, IsFamily}
+use Rattle.dom_family.proofs.Lengths.{length-end}
 use Rattle.dom_family.proofs.Family.{value_sound, each_value, family_is}
 use Rattle.mixed_print.specs.Said.{IsListStop}
 use Rattle.mixed_print.specs.Texts.{IsMixedText}
@@ -52,10 +51,23 @@ laws = mixed_laws max_laws max_numeric_laws 31
 inclusion : (d : ℕ) → InclusionLaws D d (IsMixedOn max_ring d)
 inclusion d = mixed_inclusion max_laws max_numeric_laws d
 
+-- of the graph of the program
+module _ (p : Named) (delay narrow : ℕ) (G : ControlGraph) (graph_is : G ≡ graph_of (nameless p)) where
+  pub family_gives : (E : End (Value Element)) → Analysis D G delay narrow (Gives E) →
+      FamilyOf D delay narrow p (Gives E)
+  family_gives E h = subst (λ H. Analysis D H delay narrow (Gives E)) graph_is h
+
+  pub passes_bound : (passes : ℕ) → passes ≤ length G.heads * (delay + 4097 + 1) + 1 →
+      passes ≤ length (heads (nameless p)) * (delay + 4097 + 1) + 1
+  passes_bound passes h = subst (λ (H : ControlGraph). passes ≤ length H.heads * (delay + 4097 + 1) + 1) graph_is h
+
 module _ (p : Named) (kept : IsWithin program_limits p) (delay narrow : ℕ) (end : End (Value Element))
     (gives : FamilyOf D delay narrow p (Gives end)) where
   abbrev d : ℕ
   d = length p.names
+
+  pub values_count : length end.values ≡ length (points (nameless p))
+  values_count = length-end D (graph_of (nameless p)) delay narrow end gives
 
   pub values_on : All (λ v. variables v ≡ d) end.values
   values_on = each_value p kept laws (inclusion d) delay narrow end gives (λ v. variables v ≡ d)
@@ -92,7 +104,7 @@ module _ (p : Named) (kept : IsWithin program_limits p) (delay narrow : ℕ) (en
         slice_get verdicts k ≡ Some true → IsTrueAtVisits p a
     claims k a is says =
         let xs = asserts (nameless p) in
-        let listed : Contains xs a = (k, slice_get_within xs k a is, sym (get_or_from_slice_get xs k a a is)) in
+        let listed : Contains xs a = (k, slice_get_within xs k a is, get_or_from_slice_get xs k a a is) in
         true_of a listed ((judged_at k a is says).0 refl)
 
   pub report : (text : List ℕ) → end.passes ≤ length (heads (nameless p)) * (delay + 4097 + 1) + 1 →

@@ -43,6 +43,8 @@ pub(crate) fn report_text(
         IsListedStop (mixed max_ring max_numbering) IsListStop delay narrow program.now cause stop → ⊥) }
     ensures refused { IfErr result (IsReportRefusal delay narrow program.now) }
 {
+    // The names tell what every program keeps.
+    let _names = program.names();
     let graph = build(alloc, program)?;
     let family = family::<MixedDomain>(alloc, &graph, delay, narrow)?;
     let values = family.values.as_slice();
