@@ -2,7 +2,6 @@
 ghost use Rattle.std.specs.Prelude.{◌≤◌, ◌^◌, length, IfOk, IfErr};
 ghost use Rattle.report_texts.specs.Modes.{InMax, InMin};
 ghost use Rattle.tplib_reply.specs.Meaning.{IsReply, IsRefused};
-ghost use Rattle.tplib_analyze.specs.Modes.{mode_of};
 ghost use Rattle.tplib_analyze.specs.Analyze.{analyze_meaning};
 
 use crate::report::report;
@@ -11,10 +10,16 @@ use report_print::print_report;
 use report_value::AnyReport;
 use std::alloc::Global;
 use tplib_reply::{Refusal, Reply};
-use trop_words::Mode;
 
-// The report in max-plus.
-fn in_max(alloc: Global, delay: u32, narrow: u32, bytes: &[u8]) -> Result<Reply, Refusal>
+/// The report of the invariant family, by maximum and sum, of the program that the bytes spell: for each point of its
+/// control graph the rows of its cone and the inequalities of its external list, and for each assert whether its cone
+/// proves the claim. The first `delay` changes of a loop's head are joins and any other change is a widening; `narrow`
+/// descending passes follow (Allamigeon, Gaubert, Goubault, Inferring min and max invariants using max-plus polyhedra,
+/// 2008).
+///
+/// Errors: the first fault of the bytes as a program whose asserts suit the mode; `Limit` or `Range` at the first
+/// refused place of the analysis; `Limit` at the first point whose external list stops; want of memory.
+pub fn max_reply(alloc: Global, delay: u32, narrow: u32, bytes: &[u8]) -> Result<Reply, Refusal>
     requires delay { delay ≤ 1000 }
     requires narrow { narrow ≤ 100 }
     requires short { length bytes.now ≤ 2 ^ 31 }
@@ -27,8 +32,10 @@ fn in_max(alloc: Global, delay: u32, narrow: u32, bytes: &[u8]) -> Result<Reply,
     Ok(Reply { yes: true, text })
 }
 
-// The report in min-plus.
-fn in_min(alloc: Global, delay: u32, narrow: u32, bytes: &[u8]) -> Result<Reply, Refusal>
+/// The same by minimum and sum.
+///
+/// Errors: as those of [`max_reply`].
+pub fn min_reply(alloc: Global, delay: u32, narrow: u32, bytes: &[u8]) -> Result<Reply, Refusal>
     requires delay { delay ≤ 1000 }
     requires narrow { narrow ≤ 100 }
     requires short { length bytes.now ≤ 2 ^ 31 }
@@ -39,30 +46,4 @@ fn in_min(alloc: Global, delay: u32, narrow: u32, bytes: &[u8]) -> Result<Reply,
     let report = report(alloc, program, delay, narrow)?;
     let text = print_report(alloc, &AnyReport::Min(report))?;
     Ok(Reply { yes: true, text })
-}
-
-/// The report of the invariant family of the program that the bytes spell: for each point of its control graph the rows
-/// of its cone and the inequalities of its external list, and for each assert whether its cone proves the claim. The
-/// first `delay` changes of a loop's head are joins and any other change is a widening; `narrow` descending passes
-/// follow (Allamigeon, Gaubert, Goubault, Inferring min and max invariants using max-plus polyhedra, 2008).
-///
-/// Errors: the first fault of the bytes as a program whose asserts suit the mode; `Limit` or `Range` at the first
-/// refused place of the analysis; `Limit` at the first point whose external list stops; want of memory.
-pub fn analyze_reply(
-    alloc: Global,
-    mode: Mode,
-    delay: u32,
-    narrow: u32,
-    bytes: &[u8],
-) -> Result<Reply, Refusal>
-    requires delay { delay ≤ 1000 }
-    requires narrow { narrow ≤ 100 }
-    requires short { length bytes.now ≤ 2 ^ 31 }
-    ensures reply { IfOk result (IsReply (analyze_meaning (mode_of mode) delay narrow) bytes.now) }
-    ensures refused { IfErr result (IsRefused (analyze_meaning (mode_of mode) delay narrow) bytes.now) }
-{
-    match mode {
-        Mode::Max => in_max(alloc, delay, narrow, bytes),
-        Mode::Min => in_min(alloc, delay, narrow, bytes),
-    }
 }

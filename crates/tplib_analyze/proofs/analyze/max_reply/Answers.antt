@@ -7,7 +7,7 @@ use Rattle.prog_texts.specs.Words.{program_pieces}
 use Rattle.report_texts.specs.Modes.{InMax, rule_of}
 use Rattle.tplib_analyze.proofs.Suits.{program_sides, program_suits}
 use Rattle.tplib_analyze.proofs.Texts.{report_within, analyze_answered, refused}
-use Rattle.tplib_analyze.proofs.analyze.in_max.Goals as goal
+use Rattle.tplib_analyze.proofs.analyze.max_reply.Goals as goal
 
 pub report-requires-clause-suits : goal.report-requires-clause-suits
 report-requires-clause-suits c =
