@@ -1,8 +1,4 @@
-pub mod Zips
-pub mod Claims
-pub mod Added
 pub mod Suits
-pub mod Lengths
 pub mod Parts
 pub mod Passes
 pub mod Refusals

@@ -30,7 +30,7 @@ use Rattle.tplib_reply.specs.declared.refusal.Refusal.TheVariants as refusals
 use Rattle.tplib_analyze.specs.Stops.{IsListStop}
 use Rattle.tplib_analyze.specs.Defined.{IsPrintedFor}
 use Rattle.tplib_analyze.specs.Parts.{IsKeptValue, IsPointMade, IsPartRefusal, IsFirstStop, IsPartsRefusal}
-use Rattle.tplib_analyze.proofs.Zips.{AllZip-some}
+use Rattle.dom_family.proofs.Zips.{AllZip-some}
 
 -- no external list of no rows stops
 empty_unstopped : {V : Type 0} (R : Semiring V) (v : Value V) → v.rows ≡ [] → (i k : ℕ) → IsListStop R v i k → ⊥

@@ -4,17 +4,8 @@ use Rattle.trop_theory.specs.Semiring.{Semiring}
 use Rattle.trop_theory.specs.Numbers.{Numbering}
 use Rattle.trop_duality.specs.PolarStops.{IsPolarStop}
 use Rattle.prog_theory.specs.Named.{Named}
-use Rattle.dom_theory.specs.Places as theory
-use Rattle.dom_theory.specs.Outcomes.{Gives, Stops}
-use Rattle.dom_theory.specs.Relations.{OverLimit, OutOfRange}
+use Rattle.dom_theory.specs.Outcomes.{Gives}
 use Rattle.dom_theory.specs.Analysis.{End}
-use Rattle.dom_core.specs.declared.place.Part.{Part}
-use Rattle.dom_core.specs.declared.place.Part.TheVariants as parts
-use Rattle.dom_core.specs.declared.place.Place.{Place}
-use Rattle.dom_core.specs.Views as core
-use Rattle.dom_iter.specs.declared.error.IterErr.{IterErr}
-use Rattle.dom_iter.specs.declared.error.IterErr.TheVariants as iteration
-use Rattle.dom_iter.specs.Comes.{StopsAt}
 use Rattle.trop_poly.specs.declared.error.PolyErr.{PolyErr}
 use Rattle.trop_poly.specs.declared.error.PolyErr.TheVariants as cones
 use Rattle.trop_poly.specs.Refusals.{IsExternalRefusal}
@@ -23,50 +14,28 @@ use Rattle.cone_domain.specs.Polyhedra.{nothing}
 use Rattle.tplib_reply.specs.declared.stop.Stop.TheVariants as stops
 use Rattle.tplib_reply.specs.declared.refusal.Refusal.{Refusal}
 use Rattle.tplib_reply.specs.declared.refusal.Refusal.TheVariants as refusals
-use Rattle.tplib_analyze.specs.Views.{part_of}
-use Rattle.tplib_analyze.specs.Stopped.{part_named, refusal_of, list_refusal}
+use Rattle.tplib_family.specs.Stops.{IsAnalysisRefusal}
+use Rattle.tplib_analyze.specs.Stopped.{list_refusal}
 use Rattle.tplib_analyze.specs.Family.{FamilyOf}
 use Rattle.tplib_analyze.specs.Parts.{IsPartRefusal, IsPartsRefusal}
 use Rattle.tplib_analyze.specs.Made.{IsReportRefusal}
 
--- a part has the same name in the theory
-part_same : (part : Part) → core.part_of part ≡ part_of (part_named part)
-part_same (parts.Edge e) = refl
-part_same (parts.Sum e) = refl
-part_same parts.Head = refl
-part_same (parts.Polar i k) = refl
-part_same (parts.Kept k) = refl
-
-abbrev place_with : Place → theory.Part → theory.Place
-place_with place part = record { pass = place.pass; point = place.point; part = part }
-
 module _ {V : Type 0} (R : Semiring V) (N : Numbering V) (reversed : Bool) (delay narrow : ℕ) (p : Named) where
   -- where the analysis stops
-  pub analysis_refused : (e : IterErr) → StopsAt (FamilyOf R N reversed delay narrow p) e →
-      IsReportRefusal R N reversed delay narrow p (refusal_of e)
-  analysis_refused (iteration.Limit place) h =
-      subst (λ part. FamilyOf R N reversed delay narrow p (Stops (record {
-        cause = OverLimit;
-        place = place_with place
-            part;
-      })))
-      (part_same place.part) h
-  analysis_refused (iteration.Range place) h =
-      subst (λ part. FamilyOf R N reversed delay narrow p (Stops (record {
-        cause = OutOfRange;
-        place = place_with
-            place part;
-      })))
-      (part_same place.part) h
-  analysis_refused iteration.NoMemory h = tt
-
-  pub refused_as : (e : IterErr) (refusal : Refusal) → refusal ≡ refusal_of e →
-      StopsAt (FamilyOf R N reversed delay narrow p) e → IsReportRefusal R N reversed delay narrow p refusal
-  refused_as e refusal is h = subst (IsReportRefusal R N reversed delay narrow p) (sym is) (analysis_refused e h)
-
-  pub refused_memory : (refusal : Refusal) → refusal ≡ refusals.NoMemory →
+  pub analysis_refused : (refusal : Refusal) → IsAnalysisRefusal (FamilyOf R N reversed delay narrow p) refusal →
       IsReportRefusal R N reversed delay narrow p refusal
-  refused_memory refusal is = subst (IsReportRefusal R N reversed delay narrow p) (sym is) tt
+  analysis_refused (refusals.Limit (stops.At place)) h = h
+  analysis_refused (refusals.Limit (stops.PointPolar q i k)) h = absurd h
+  analysis_refused (refusals.Limit (stops.Rows k)) h = absurd h
+  analysis_refused (refusals.Limit (stops.Polar i k)) h = absurd h
+  analysis_refused (refusals.Limit (stops.Lean k j)) h = absurd h
+  analysis_refused (refusals.Range (stops.At place)) h = h
+  analysis_refused (refusals.Range (stops.PointPolar q i k)) h = absurd h
+  analysis_refused (refusals.Range (stops.Rows k)) h = absurd h
+  analysis_refused (refusals.Range (stops.Polar i k)) h = absurd h
+  analysis_refused (refusals.Range (stops.Lean k j)) h = absurd h
+  analysis_refused (refusals.Text fault) h = absurd h
+  analysis_refused refusals.NoMemory h = tt
 
   -- where the external list of a point stops
   pub parts_refused : (end : End (Value V)) → FamilyOf R N reversed delay narrow p (Gives end) → (refusal : Refusal) →

@@ -33,9 +33,10 @@ use Rattle.cone_reports.specs.Asserts.{Assertion, asserts}
 use Rattle.cone_reports.specs.Inductive.{IsInductive, IsRight}
 use Rattle.cone_reports.specs.Readings.{SuitsWords, SuitsClaim, IsProvenOn}
 use Rattle.cone_reports.specs.Reports.{Part, Report, no_part, part_at, cone_at}
+use Rattle.cone_reports.proofs.Asserts as placed
 use Rattle.cone_reports.proofs.Reports.{printed_is_true, proved_is_true}
 use Rattle.cone_domain.specs.Values.{Value, coordinates, cone_of}
-use Rattle.cone_domain.specs.Polyhedra.{polyhedra, nothing}
+use Rattle.cone_domain.specs.Polyhedra.{polyhedra, nothing, IsProvenBy}
 use Rattle.cone_domain.proofs.Laws.{polyhedra_laws}
 use Rattle.cone_domain.proofs.Inclusion.{IsValueOn}
 use Rattle.cone_domain.proofs.Reports.{end_values, report_inductive}
@@ -47,19 +48,20 @@ use Rattle.report_value.specs.Kept.{IsPartKept, IsPointKept}
 use Rattle.tplib_reply.specs.Meaning.{Cause, OverLimit, OutOfRange}
 use Rattle.tplib_reply.specs.declared.stop.Stop.{Stop}
 use Rattle.tplib_reply.specs.declared.stop.Stop.TheVariants.{Rows, Polar, Lean, At, PointPolar}
-use Rattle.tplib_analyze.specs.Views.{cause_of, place_of}
+use Rattle.tplib_family.specs.Views.{cause_of, place_of}
 use Rattle.tplib_analyze.specs.Family.{FamilyOf, value_in}
 use Rattle.tplib_analyze.specs.Stops.{IsListStop, IsStop}
-use Rattle.tplib_analyze.specs.Defined.{IsPartFor, IsPrintedFor, IsJudgedBy}
+use Rattle.dom_family.specs.Family.{IsJudgedBy}
+use Rattle.tplib_analyze.specs.Defined.{IsPartFor, IsPrintedFor}
 use Rattle.tplib_analyze.specs.Visits.{ArePrintedTrue, AreProvedTrue}
 use Rattle.tplib_analyze.specs.Parts.{IsPartMade, IsPointMade}
-use Rattle.tplib_analyze.specs.Claims.{Claimed, claims_bl, IsJudgeable, IsVerdictOn}
+use Rattle.dom_verdicts.specs.Claims.{Claimed}
 use Rattle.tplib_analyze.specs.Made.{IsReportMade}
-use Rattle.tplib_analyze.proofs.Zips.{AllZip-length, AllZip-at, AllZip-map, AllZip-map_right, AllZip-weaker}
-use Rattle.tplib_analyze.proofs.Claims.{claimed, program_claims}
-use Rattle.tplib_analyze.proofs.Lengths.{length-end}
+use Rattle.dom_family.proofs.Zips.{AllZip-length, AllZip-at, AllZip-map_right, AllZip-weaker}
+use Rattle.dom_verdicts.proofs.Claims.{claimed, program_claims}
+use Rattle.dom_family.proofs.Lengths.{length-end}
 use Rattle.tplib_analyze.proofs.Parts.{point_kept}
-use Rattle.tplib_analyze.proofs.Suits.{judgeable, claim_suits, block_each}
+use Rattle.tplib_analyze.proofs.Suits.{block_each}
 use Rattle.tplib_analyze.proofs.Passes.{passes_within}
 
 module _ {V : Type 0} {R : Semiring V} {N : Numbering V} {reversed : Bool} (laws : SemiringLaws R)
@@ -81,12 +83,9 @@ module _ {V : Type 0} {R : Semiring V} {N : Numbering V} {reversed : Bool} (laws
   pub value_on : (q : ℕ) → IsValueOn R vars (value q)
   value_on = end_values laws numbers (nameless p) graph delay narrow end gives
 
-  pub claims_judgeable : EachClaims (IsJudgeable reversed vars) p.body
-  claims_judgeable = judgeable reversed vars p.body suits kept.sides kept.coordinates kept.numbers
-
   module _ {Store : Type 0} (number_laws : NumberLaws R N) (parts : List (PointPart V Store)) (verdicts : List Bool)
       (made : AllZip (IsPointMade R) end.values parts)
-      (judged : AllZip (IsVerdictOn R N reversed value) (claims_bl 0 p.body) verdicts) where
+      (judged : AllZip (IsJudgedBy (IsProvenBy R N reversed) value) (asserts (nameless p)) verdicts) where
     abbrev report : Report V
     report = record { program = nameless p; parts = parts_of parts; verdicts = verdicts }
 
@@ -138,15 +137,11 @@ module _ {V : Type 0} {R : Semiring V} {N : Numbering V} {reversed : Bool} (laws
         (arith, l, e)))))
         (cases_lt q (length end.values))
 
-    by_asserts : AllZip (IsJudgedBy R N reversed value) (asserts (nameless p)) verdicts
-    by_asserts = AllZip-map (IsVerdictOn R N reversed value) claimed (asserts (nameless p)) verdicts
-        (subst (λ z. AllZip (IsVerdictOn R N reversed value) z verdicts) (sym (program_claims (nameless p))) judged)
-
     right : AllZip (IsRight R N reversed report) (asserts (nameless p)) verdicts
-    right = AllZip-weaker (IsJudgedBy R N reversed value) (IsRight R N reversed report)
+    right = AllZip-weaker (IsJudgedBy (IsProvenBy R N reversed) value) (IsRight R N reversed report)
         (λ a b h. at_point (λ n rows. (b ≡ true) ↔ IsProvenOn R N reversed n (IsCombination R n rows) a.claim) a.point
         h)
-        (asserts (nameless p)) verdicts by_asserts
+        (asserts (nameless p)) verdicts judged
 
     pub inductive : IsInductive R N reversed report
     inductive = report_inductive laws numbers report graph delay narrow end gives
@@ -165,12 +160,13 @@ module _ {V : Type 0} {R : Semiring V} {N : Numbering V} {reversed : Bool} (laws
     assert_suits k a is =
         let xs = asserts (nameless p) in
         let l : k < length xs = slice_get_within xs k a is in
-        let each : All (λ (c : Claimed). IsJudgeable reversed vars c.claim) (map claimed xs) =
-        subst (All (λ (c : Claimed). IsJudgeable reversed vars c.claim)) (sym (program_claims (nameless p)))
-        (block_each (IsJudgeable reversed vars) p.body 0 claims_judgeable) in
+        let each : All (λ (c : Claimed). SuitsWords reversed c.claim) (map claimed xs) =
+        subst (All (λ (c : Claimed). SuitsWords reversed c.claim)) (sym (program_claims (nameless p)))
+        (block_each (SuitsWords reversed) p.body 0 suits) in
         let here : get_or (map claimed xs) k (claimed a) ≡ claimed a =
         get_or-map claimed xs k a (claimed a) l ∙ ap claimed (get_or_from_slice_get xs k a a is) in
-        claim_suits reversed vars a.claim (subst (λ (c : Claimed). IsJudgeable reversed vars c.claim) here
+        placed.assert_suits (nameless p) a (k, l, get_or_from_slice_get xs k a a is) reversed kept.coordinates kept.sides
+        (subst (λ (c : Claimed). SuitsWords reversed c.claim) here
         (each k (claimed a) (let m = length-map xs claimed in omega (arith, l, m))))
 
     pub claims : AreProvedTrue report
@@ -224,7 +220,7 @@ module _ {V : Type 0} {R : Semiring V} {N : Numbering V} {reversed : Bool} (laws
         omega (arith, s, m)
 
     pub length-verdicts : length verdicts ≡ length (assert_numbers p)
-    length-verdicts = sym (AllZip-length (IsJudgedBy R N reversed value) (asserts (nameless p)) verdicts by_asserts)
+    length-verdicts = sym (AllZip-length (IsJudgedBy (IsProvenBy R N reversed) value) (asserts (nameless p)) verdicts judged)
         ∙ sym (length-map (asserts (nameless p)) (λ (a : Assertion). a.number))
 
     part_for : (q : ℕ) → q < length (parts_of parts) → IsPartFor R (value q) (part_at report q)
@@ -250,7 +246,7 @@ module _ {V : Type 0} {R : Semiring V} {N : Numbering V} {reversed : Bool} (laws
         program_is = refl;
         one_each = length-report ∙ length-values;
         parts = part_for;
-        verdicts = by_asserts;
+        verdicts = judged;
       };
       passes = (passes_within passes _ delay bound graph.few few).0;
       kept = record {

@@ -1,23 +1,21 @@
--- The asserts of a program that is read under the rule of a mode can be judged in the semiring of the mode.
-use Rattle.std.proofs.Common.{◌≡◌, ◌+◌, ◌^◌, ℕ, Bool, true, false, List, [], ◌∷◌, refl, subst, sym}
+-- The asserts of a program that is read under the rule of a mode have words of the semiring of the mode.
+use Rattle.std.proofs.Common.{◌≡◌, ◌+◌, ℕ, true, false, List, [], ◌∷◌, refl, subst, sym}
 use Rattle.std.specs.Prelude.{All}
 use Rattle.std.proofs.lemmas.List.Elements.{All-nil, All-cons, All-append}
 use Rattle.prog_theory.specs.States.{Term}
 use Rattle.prog_theory.specs.Statements.{SideWord, One, Greatest, Least, Claim, Stmt, Set, Havoc, Assume, Assert, If, While, Skip, Block, Empty, Then}
 use Rattle.prog_theory.specs.Tests.{test, inner}
 use Rattle.prog_theory.specs.Places.{width, widths}
-use Rattle.prog_theory.specs.Each.{EachStmt, EachBlock, EachClaim, EachClaims}
-use Rattle.prog_theory.specs.Fits.{FitsStmt, FitsBlock}
+use Rattle.prog_theory.specs.Each.{EachClaim, EachClaims}
 use Rattle.prog_theory.specs.Limits.{Limits}
 use Rattle.prog_theory.specs.Named.{Named}
-use Rattle.prog_theory.specs.Within.{IsNumberWithin, IsClaim}
 use Rattle.prog_texts.specs.Suits.{SuitsSide, SuitsStmt, SuitsBlock}
 use Rattle.prog_texts.specs.Words.{Counted}
 use Rattle.prog_texts.specs.Programs.{IsWholeProgram}
 use Rattle.prog_texts.proofs.Printable.{spelled_printable}
-use Rattle.cone_reports.specs.Readings.{SuitsWord, SuitsWords, SuitsClaim}
+use Rattle.cone_reports.specs.Readings.{SuitsWord, SuitsWords}
 use Rattle.report_texts.specs.Modes.{Mode, InMax, InMin, rule_of, is_reversed}
-use Rattle.tplib_analyze.specs.Claims.{Claimed, claims_st, claims_bl, IsJudgeable}
+use Rattle.dom_verdicts.specs.Claims.{Claimed, claims_st, claims_bl}
 
 -- ---- words
 
@@ -59,50 +57,6 @@ program_sides L mode ts p h =
 pub program_suits : (L : Limits) (mode : Mode) (ts : List Counted) (p : Named) → IsWholeProgram L (rule_of mode) ts p →
     EachClaims (SuitsWords (is_reversed mode)) p.body
 program_suits L mode ts p h = block_suits mode p.body (program_sides L mode ts p h)
-
--- ---- claims that can be judged
-
-mutual
-  stmt_judgeable : (reversed : Bool) (vars : ℕ) (st : Stmt) → EachClaim (SuitsWords reversed) st → EachClaim IsClaim
-      st →
-      FitsStmt vars st → EachStmt (λ x. Unit {0}) (IsNumberWithin (2 ^ 31)) st → EachClaim (IsJudgeable reversed vars)
-      st
-  stmt_judgeable reversed vars (Assert c) suits sides fits numbers = record {
-    suits = suits;
-    sides = sides;
-    fits = record { left = fits.0; right = fits.1; left_numbers = numbers.0; right_numbers = numbers.1 };
-  }
-  stmt_judgeable reversed vars (If c a b) suits sides fits numbers = (
-    judgeable reversed vars a suits.0 sides.0 fits.1 numbers.1,
-    judgeable reversed vars b suits.1 sides.1 fits.2
-        numbers.2,
-  )
-  stmt_judgeable reversed vars (While c a) suits sides fits numbers = judgeable reversed vars a suits sides fits.1
-      numbers.1
-  stmt_judgeable reversed vars (Set x t) suits sides fits numbers = tt
-  stmt_judgeable reversed vars (Havoc x) suits sides fits numbers = tt
-  stmt_judgeable reversed vars (Assume c) suits sides fits numbers = tt
-  stmt_judgeable reversed vars Skip suits sides fits numbers = tt
-
-  pub judgeable : (reversed : Bool) (vars : ℕ) (b : Block) → EachClaims (SuitsWords reversed) b → EachClaims IsClaim b →
-      FitsBlock vars b → EachBlock (λ x. Unit {0}) (IsNumberWithin (2 ^ 31)) b → EachClaims (IsJudgeable reversed
-      vars) b
-  judgeable reversed vars Empty suits sides fits numbers = tt
-  judgeable reversed vars (Then st b) suits sides fits numbers = (
-    stmt_judgeable reversed vars st suits.0 sides.0 fits.0 numbers.0,
-    judgeable reversed vars b suits.1 sides.1
-        fits.1 numbers.1,
-  )
-
-pub claim_suits : (reversed : Bool) (vars : ℕ) (claim : Claim) → IsJudgeable reversed vars claim →
-    SuitsClaim reversed vars claim
-claim_suits reversed vars claim h = record {
-  words = h.suits;
-  sides = h.sides;
-  left = h.fits.left;
-  right =
-      h.fits.right;
-}
 
 -- ---- each claim of a list
 

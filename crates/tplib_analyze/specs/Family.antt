@@ -2,16 +2,16 @@
 use Rattle.std.specs.Prelude.{◌+◌, ℕ, Bool, List, length, slice_index_or}
 use Rattle.trop_theory.specs.Semiring.{Semiring}
 use Rattle.trop_theory.specs.Numbers.{Numbering}
-use Rattle.prog_theory.specs.ControlGraphs.{graph_of}
-use Rattle.prog_theory.specs.Named.{Named, nameless}
+use Rattle.prog_theory.specs.Named.{Named}
 use Rattle.dom_theory.specs.Outcomes.{Outcome}
-use Rattle.dom_theory.specs.Analysis.{End, Analysis}
+use Rattle.dom_theory.specs.Analysis.{End}
+use Rattle.dom_family.specs.Family as families
 use Rattle.cone_domain.specs.Values.{Value}
 use Rattle.cone_domain.specs.Polyhedra.{polyhedra, nothing}
 
 -- The first `delay` changes of a head are joins, and `narrow` passes follow the ascent.
 abbrev pub FamilyOf : {V : Type 0} → Semiring V → Numbering V → Bool → ℕ → ℕ → Named → Outcome (End (Value V)) → Type 0
-FamilyOf R N reversed delay narrow p = Analysis (polyhedra R N reversed) (graph_of (nameless p)) delay narrow
+FamilyOf R N reversed delay narrow p = families.FamilyOf (polyhedra R N reversed) delay narrow p
 
 -- one coordinate for each variable, and coordinate 0
 abbrev pub coordinates : Named → ℕ

@@ -1,4 +1,3 @@
-pub mod Views
 pub mod Family
 pub mod Stops
 pub mod Defined
@@ -6,5 +5,4 @@ pub mod Visits
 pub mod Analyze
 pub mod Stopped
 pub mod Parts
-pub mod Claims
 pub mod Made

@@ -2,10 +2,10 @@
 //! with a [`Reply`](tplib_reply::Reply), or refuses them for a named cause.
 //!
 //! Read `specs/` in this order. The family is what comes of the analysis of the program's control graph by tropical
-//! polyhedra (`Family`); an analysis may stop instead (`Views`, `Stops`). Of a family there is one report (`Defined`).
-//! What it says is true at each visit of each run (`Visits`). What the command means stands in `Analyze`. The
-//! other pages are for the functions of this crate: how a stop is named (`Stopped`), what
-//! is made of one point (`Parts`), where the asserts of a statement stand (`Claims`), and the whole report (`Made`).
+//! polyhedra (`Family`); an analysis may stop instead (`Stops`). Of a family there is one report (`Defined`). What it says
+//! is true at each visit of each run (`Visits`). What the command means stands in `Analyze`. The other pages are for the
+//! functions of this crate: how a stop is named (`Stopped`), what is made of one point (`Parts`), and the whole report
+//! (`Made`).
 #![tactic(auto)]
 
 mod analyze;
@@ -13,6 +13,5 @@ mod copying;
 mod part;
 mod report;
 mod stopped;
-mod verdicts;
 
 pub use analyze::{max_reply, min_reply};

@@ -5,14 +5,13 @@ ghost use Rattle.cone_reports.specs.Readings.{SuitsWords};
 ghost use Rattle.tplib_analyze.specs.Made.{IsReportMade, IsReportRefusal};
 
 use crate::part::parts;
-use crate::stopped::stopped;
-use crate::verdicts::verdicts;
-use dom_iter::analyse;
 use dom_poly::PolyDomain;
+use dom_verdicts::verdicts;
 use prog_graph::build;
 use prog_tree::Program;
 use report_value::Report;
 use std::alloc::Global;
+use tplib_family::family;
 use tplib_reply::Refusal;
 use trop_scalar::Numeric;
 
@@ -29,15 +28,12 @@ pub(crate) fn report<S: Numeric>(
     ensures made { IfOk result (IsReportMade S.ring S.numbering S.REVERSED delay narrow program) }
     ensures refused { IfErr result (IsReportRefusal S.ring S.numbering S.REVERSED delay narrow program) }
 {
-    let vars = program.vars();
+    prove!(program.vars() <= 63);
     let graph = build(alloc, &program)?;
-    let family = match analyse::<PolyDomain<S>>(alloc, &graph, delay, narrow) {
-        Ok(family) => family,
-        Err(e) => return Err(stopped(e)),
-    };
+    let family = family::<PolyDomain<S>>(alloc, &graph, delay, narrow)?;
     let values = family.values.as_slice();
     let parts = parts(alloc, values)?;
-    let verdicts = verdicts(alloc, vars, values, program.body())?;
+    let verdicts = verdicts(alloc, &program, values)?;
     Ok(Report::new(
         delay,
         narrow,

@@ -1,7 +1,7 @@
 use Rattle.std.proofs.Common.{arith}
 use Rattle.std.proofs.lemmas.Result.{err_from_is_err_and}
 use Rattle.tplib_analyze.specs.Parts.{IsPointMade}
-use Rattle.tplib_analyze.proofs.Zips.{AllZip-take_more}
+use Rattle.dom_family.proofs.Zips.{AllZip-take_more}
 use Rattle.tplib_analyze.proofs.Parts.{parts_stopped, AllZip-all}
 use Rattle.tplib_analyze.proofs.part.parts.Goals as goal
 

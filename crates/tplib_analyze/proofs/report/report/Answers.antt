@@ -4,26 +4,27 @@ use Rattle.std.proofs.lemmas.Result.{err_from_is_err_and}
 use Rattle.prog_theory.specs.ControlGraphs.{ControlGraph}
 use Rattle.dom_theory.specs.Analysis.{End}
 use Rattle.cone_domain.specs.Values.{Value}
+use Rattle.tplib_family.specs.Family.{end_of}
 use Rattle.tplib_analyze.specs.Made.{IsReportMade}
 use Rattle.tplib_analyze.specs.Parts.{IsPointMade, IsPartsRefusal}
 use Rattle.tplib_analyze.proofs.Passes.{passes_within}
-use Rattle.tplib_analyze.proofs.Refusals.{refused_as, parts_refused}
+use Rattle.tplib_analyze.proofs.Refusals.{parts_refused}
 use Rattle.tplib_analyze.proofs.Reports.{graph, points_kept, length-parts, length-verdicts, report_made}
-use Rattle.tplib_analyze.proofs.Family.{family_gives, family_stops, passes_bound, few_values, points_inside, values_on, body_judgeable, judged_as}
+use Rattle.tplib_analyze.proofs.Family.{family_gives, family_refused, passes_bound, few_values, values_each, values_on, judged_as}
 use Rattle.tplib_analyze.proofs.report.report.Goals as goal
 
-pub analyse-requires-clause-few : goal.analyse-requires-clause-few
-analyse-requires-clause-few g c =
-    omega (arith, ap (λ (G : ControlGraph). G.vars) c.in_ok-graph.ensures.graph, c.vars-vars.ensures.keeps.within.vars)
+pub family-requires-clause-few : goal.family-requires-clause-few
+family-requires-clause-few g c =
+    omega (arith, ap (λ (G : ControlGraph). G.vars) c.in_ok-graph.ensures.graph, c.vars.ensures.keeps.within.vars)
 
-pub returns-in-Err-clause-refused : goal.returns-in-Err-clause-refused
-returns-in-Err-clause-refused g c =
+pub returns-in_err-family-clause-refused : goal.returns-in_err-family-clause-refused
+returns-in_err-family-clause-refused g c =
     let R = g.S.Scalar.ring in
     let N = g.S.Scalar.numbering in
     let reversed = g.S.Scalar.REVERSED in
-    refused_as R N reversed c.args.delay c.args.narrow c.args.program c.in-Err.e _ c.stopped.ensures
-    (family_stops R N reversed c.args.delay c.args.narrow c.args.program c.in_ok-graph.graph c.in_ok-graph.ensures.graph
-    c.in-Err.e c.in-Err.ensures.comes)
+    let r = err_from_is_err_and c.from_residual-in_err-family.result c.from_residual-in_err-family.ensures.1 in
+    rw (r.1, r.2) (family_refused R N reversed c.args.delay c.args.narrow c.args.program c.in_ok-graph.graph
+    c.in_ok-graph.ensures.graph c.in_err-family.field-0.0 c.in_err-family.ensures.refused)
 
 pub parts-requires : goal.parts-requires
 parts-requires g c =
@@ -31,12 +32,12 @@ parts-requires g c =
     let N = g.S.Scalar.numbering in
     let reversed = g.S.Scalar.REVERSED in
     let p = c.args.program in
-    let E : End (Value _) = record { values = c.in-Ok.family.values.items; passes = c.in-Ok.family.passes } in
+    let E : End (Value _) = end_of c.in_ok-family.family in
     record {
-      few = few_values g.met.S.Scalar.ring_laws g.met.S.Numeric.numeric_laws p c.vars-vars.ensures.keeps.within
+      few = few_values g.met.S.Scalar.ring_laws g.met.S.Numeric.numeric_laws p c.vars.ensures.keeps.within
           c.requires.suits
           c.args.delay c.args.narrow E (family_gives R N reversed c.args.delay c.args.narrow p c.in_ok-graph.graph
-          c.in_ok-graph.ensures.graph E c.in-Ok.ensures.comes) c.as_slice-values.result.now c.as_slice-values.ensures.value;
+          c.in_ok-graph.ensures.graph E c.in_ok-family.ensures.gives) c.as_slice-values.result.now c.as_slice-values.ensures.value;
     }
 
 pub returns-in_err-parts-clause-refused : goal.returns-in_err-parts-clause-refused
@@ -45,37 +46,25 @@ returns-in_err-parts-clause-refused g c =
     let N = g.S.Scalar.numbering in
     let reversed = g.S.Scalar.REVERSED in
     let p = c.args.program in
-    let E : End (Value _) = record { values = c.in-Ok.family.values.items; passes = c.in-Ok.family.passes } in
+    let E : End (Value _) = end_of c.in_ok-family.family in
     let r = err_from_is_err_and c.from_residual-in_err-parts.result c.from_residual-in_err-parts.ensures.1 in
     rw (r.1, r.2) (parts_refused R N reversed c.args.delay c.args.narrow p E
     (family_gives R N reversed c.args.delay c.args.narrow p c.in_ok-graph.graph c.in_ok-graph.ensures.graph E
-    c.in-Ok.ensures.comes) c.in_err-parts.field-0.0
+    c.in_ok-family.ensures.gives) c.in_err-parts.field-0.0
     (subst (λ vs. IsPartsRefusal R vs c.in_err-parts.field-0.0) c.as_slice-values.ensures.value
     c.in_err-parts.ensures.refused))
 
-pub verdicts-requires-clause-few : goal.verdicts-requires-clause-few
-verdicts-requires-clause-few g c =
+pub verdicts-requires-clause-points : goal.verdicts-requires-clause-points
+verdicts-requires-clause-points g c =
     let R = g.S.Scalar.ring in
     let N = g.S.Scalar.numbering in
     let reversed = g.S.Scalar.REVERSED in
     let p = c.args.program in
-    let E : End (Value _) = record { values = c.in-Ok.family.values.items; passes = c.in-Ok.family.passes } in
-    few_values g.met.S.Scalar.ring_laws g.met.S.Numeric.numeric_laws p c.vars-vars.ensures.keeps.within c.requires.suits
-    c.args.delay c.args.narrow E (family_gives R N reversed c.args.delay c.args.narrow p c.in_ok-graph.graph
-    c.in_ok-graph.ensures.graph E c.in-Ok.ensures.comes) c.as_slice-values.result.now c.as_slice-values.ensures.value
-
-pub verdicts-requires-clause-inside : goal.verdicts-requires-clause-inside
-verdicts-requires-clause-inside g c =
-    let R = g.S.Scalar.ring in
-    let N = g.S.Scalar.numbering in
-    let reversed = g.S.Scalar.REVERSED in
-    let p = c.args.program in
-    let E : End (Value _) = record { values = c.in-Ok.family.values.items; passes = c.in-Ok.family.passes } in
-    points_inside g.met.S.Scalar.ring_laws g.met.S.Numeric.numeric_laws p c.vars-vars.ensures.keeps.within
-    c.requires.suits
-    c.args.delay c.args.narrow E (family_gives R N reversed c.args.delay c.args.narrow p c.in_ok-graph.graph
-    c.in_ok-graph.ensures.graph E c.in-Ok.ensures.comes) c.as_slice-values.result.now c.as_slice-values.ensures.value
-    c.body.result.now c.body.ensures.value
+    let E : End (Value _) = end_of c.in_ok-family.family in
+    let gives = family_gives R N reversed c.args.delay c.args.narrow p c.in_ok-graph.graph c.in_ok-graph.ensures.graph E
+    c.in_ok-family.ensures.gives in
+    values_each g.met.S.Scalar.ring_laws g.met.S.Numeric.numeric_laws p c.vars.ensures.keeps.within c.requires.suits
+    c.args.delay c.args.narrow E gives c.as_slice-values.result.now c.as_slice-values.ensures.value
 
 pub verdicts-requires-clause-vars : goal.verdicts-requires-clause-vars
 verdicts-requires-clause-vars g c =
@@ -83,24 +72,11 @@ verdicts-requires-clause-vars g c =
     let N = g.S.Scalar.numbering in
     let reversed = g.S.Scalar.REVERSED in
     let p = c.args.program in
-    let E : End (Value _) = record { values = c.in-Ok.family.values.items; passes = c.in-Ok.family.passes } in
-    values_on g.met.S.Scalar.ring_laws g.met.S.Numeric.numeric_laws p c.vars-vars.ensures.keeps.within c.requires.suits
-    c.args.delay c.args.narrow E (family_gives R N reversed c.args.delay c.args.narrow p c.in_ok-graph.graph
-    c.in_ok-graph.ensures.graph E c.in-Ok.ensures.comes) c.as_slice-values.result.now c.as_slice-values.ensures.value
-    c.vars-vars.result c.vars-vars.ensures.value
-
-pub verdicts-requires-clause-judgeable : goal.verdicts-requires-clause-judgeable
-verdicts-requires-clause-judgeable g c =
-    let R = g.S.Scalar.ring in
-    let N = g.S.Scalar.numbering in
-    let reversed = g.S.Scalar.REVERSED in
-    let p = c.args.program in
-    let E : End (Value _) = record { values = c.in-Ok.family.values.items; passes = c.in-Ok.family.passes } in
-    body_judgeable g.met.S.Scalar.ring_laws g.met.S.Numeric.numeric_laws p c.vars-vars.ensures.keeps.within
-    c.requires.suits
-    c.args.delay c.args.narrow E (family_gives R N reversed c.args.delay c.args.narrow p c.in_ok-graph.graph
-    c.in_ok-graph.ensures.graph E c.in-Ok.ensures.comes) c.as_slice-values.result.now c.as_slice-values.ensures.value
-    c.vars-vars.result c.body.result.now c.vars-vars.ensures.value c.body.ensures.value
+    let E : End (Value _) = end_of c.in_ok-family.family in
+    let gives = family_gives R N reversed c.args.delay c.args.narrow p c.in_ok-graph.graph c.in_ok-graph.ensures.graph E
+    c.in_ok-family.ensures.gives in
+    values_on g.met.S.Scalar.ring_laws g.met.S.Numeric.numeric_laws p c.vars.ensures.keeps.within c.requires.suits
+    c.args.delay c.args.narrow E gives c.as_slice-values.result.now c.as_slice-values.ensures.value
 
 pub new-requires-clause-passes : goal.new-requires-clause-passes
 new-requires-clause-passes g c =
@@ -108,13 +84,13 @@ new-requires-clause-passes g c =
     let N = g.S.Scalar.numbering in
     let reversed = g.S.Scalar.REVERSED in
     let p = c.args.program in
-    let E : End (Value _) = record { values = c.in-Ok.family.values.items; passes = c.in-Ok.family.passes } in
-    let G = graph g.met.S.Scalar.ring_laws g.met.S.Numeric.numeric_laws p c.vars-vars.ensures.keeps.within
+    let E : End (Value _) = end_of c.in_ok-family.family in
+    let G = graph g.met.S.Scalar.ring_laws g.met.S.Numeric.numeric_laws p c.vars.ensures.keeps.within
     c.requires.suits
     c.args.delay c.args.narrow E (family_gives R N reversed c.args.delay c.args.narrow p c.in_ok-graph.graph
-    c.in_ok-graph.ensures.graph E c.in-Ok.ensures.comes) in
-    (passes_within c.in-Ok.family.passes _ c.args.delay (passes_bound R N reversed c.args.delay c.args.narrow p
-    c.in_ok-graph.graph c.in_ok-graph.ensures.graph c.in-Ok.family.passes c.in-Ok.ensures.passes) G.few
+    c.in_ok-graph.ensures.graph E c.in_ok-family.ensures.gives) in
+    (passes_within c.in_ok-family.family.passes _ c.args.delay (passes_bound R N reversed c.args.delay c.args.narrow p
+    c.in_ok-graph.graph c.in_ok-graph.ensures.graph c.in_ok-family.family.passes c.in_ok-family.ensures.passes) G.few
     c.requires.delay).1
 
 pub new-requires-clause-graph : goal.new-requires-clause-graph
@@ -126,15 +102,14 @@ new-requires-clause-points g c =
     let N = g.S.Scalar.numbering in
     let reversed = g.S.Scalar.REVERSED in
     let p = c.args.program in
-    let E : End (Value _) = record { values = c.in-Ok.family.values.items; passes = c.in-Ok.family.passes } in
+    let E : End (Value _) = end_of c.in_ok-family.family in
     let gives = family_gives R N reversed c.args.delay c.args.narrow p c.in_ok-graph.graph c.in_ok-graph.ensures.graph E
-    c.in-Ok.ensures.comes in
+    c.in_ok-family.ensures.gives in
     let made = subst (λ vs. AllZip (IsPointMade R) vs c.in_ok-parts.parts.items) c.as_slice-values.ensures.value
     c.in_ok-parts.ensures.made in
     let judged = judged_as R N reversed p E.values c.as_slice-values.result.now c.as_slice-values.ensures.value
-    c.vars-vars.result c.vars-vars.ensures.value c.body.result.now c.body.ensures.value c.in_ok-verdicts.verdicts.items
-    c.in_ok-verdicts.ensures in
-    length-parts g.met.S.Scalar.ring_laws g.met.S.Numeric.numeric_laws p c.vars-vars.ensures.keeps.within
+    c.in_ok-verdicts.verdicts.items c.in_ok-verdicts.ensures in
+    length-parts g.met.S.Scalar.ring_laws g.met.S.Numeric.numeric_laws p c.vars.ensures.keeps.within
     c.requires.suits
     c.args.delay c.args.narrow E gives g.met.S.Scalar.number_laws c.in_ok-parts.parts.items
     c.in_ok-verdicts.verdicts.items
@@ -146,15 +121,14 @@ new-requires-clause-parts g c =
     let N = g.S.Scalar.numbering in
     let reversed = g.S.Scalar.REVERSED in
     let p = c.args.program in
-    let E : End (Value _) = record { values = c.in-Ok.family.values.items; passes = c.in-Ok.family.passes } in
+    let E : End (Value _) = end_of c.in_ok-family.family in
     let gives = family_gives R N reversed c.args.delay c.args.narrow p c.in_ok-graph.graph c.in_ok-graph.ensures.graph E
-    c.in-Ok.ensures.comes in
+    c.in_ok-family.ensures.gives in
     let made = subst (λ vs. AllZip (IsPointMade R) vs c.in_ok-parts.parts.items) c.as_slice-values.ensures.value
     c.in_ok-parts.ensures.made in
     let judged = judged_as R N reversed p E.values c.as_slice-values.result.now c.as_slice-values.ensures.value
-    c.vars-vars.result c.vars-vars.ensures.value c.body.result.now c.body.ensures.value c.in_ok-verdicts.verdicts.items
-    c.in_ok-verdicts.ensures in
-    points_kept g.met.S.Scalar.ring_laws g.met.S.Numeric.numeric_laws p c.vars-vars.ensures.keeps.within
+    c.in_ok-verdicts.verdicts.items c.in_ok-verdicts.ensures in
+    points_kept g.met.S.Scalar.ring_laws g.met.S.Numeric.numeric_laws p c.vars.ensures.keeps.within
     c.requires.suits
     c.args.delay c.args.narrow E gives g.met.S.Scalar.number_laws c.in_ok-parts.parts.items
     c.in_ok-verdicts.verdicts.items
@@ -166,15 +140,14 @@ new-requires-clause-asserts g c =
     let N = g.S.Scalar.numbering in
     let reversed = g.S.Scalar.REVERSED in
     let p = c.args.program in
-    let E : End (Value _) = record { values = c.in-Ok.family.values.items; passes = c.in-Ok.family.passes } in
+    let E : End (Value _) = end_of c.in_ok-family.family in
     let gives = family_gives R N reversed c.args.delay c.args.narrow p c.in_ok-graph.graph c.in_ok-graph.ensures.graph E
-    c.in-Ok.ensures.comes in
+    c.in_ok-family.ensures.gives in
     let made = subst (λ vs. AllZip (IsPointMade R) vs c.in_ok-parts.parts.items) c.as_slice-values.ensures.value
     c.in_ok-parts.ensures.made in
     let judged = judged_as R N reversed p E.values c.as_slice-values.result.now c.as_slice-values.ensures.value
-    c.vars-vars.result c.vars-vars.ensures.value c.body.result.now c.body.ensures.value c.in_ok-verdicts.verdicts.items
-    c.in_ok-verdicts.ensures in
-    length-verdicts g.met.S.Scalar.ring_laws g.met.S.Numeric.numeric_laws p c.vars-vars.ensures.keeps.within
+    c.in_ok-verdicts.verdicts.items c.in_ok-verdicts.ensures in
+    length-verdicts g.met.S.Scalar.ring_laws g.met.S.Numeric.numeric_laws p c.vars.ensures.keeps.within
     c.requires.suits
     c.args.delay c.args.narrow E gives g.met.S.Scalar.number_laws c.in_ok-parts.parts.items
     c.in_ok-verdicts.verdicts.items
@@ -186,19 +159,18 @@ returns-clause-made g c =
     let N = g.S.Scalar.numbering in
     let reversed = g.S.Scalar.REVERSED in
     let p = c.args.program in
-    let E : End (Value _) = record { values = c.in-Ok.family.values.items; passes = c.in-Ok.family.passes } in
+    let E : End (Value _) = end_of c.in_ok-family.family in
     let gives = family_gives R N reversed c.args.delay c.args.narrow p c.in_ok-graph.graph c.in_ok-graph.ensures.graph E
-    c.in-Ok.ensures.comes in
+    c.in_ok-family.ensures.gives in
     let made = subst (λ vs. AllZip (IsPointMade R) vs c.in_ok-parts.parts.items) c.as_slice-values.ensures.value
     c.in_ok-parts.ensures.made in
     let judged = judged_as R N reversed p E.values c.as_slice-values.result.now c.as_slice-values.ensures.value
-    c.vars-vars.result c.vars-vars.ensures.value c.body.result.now c.body.ensures.value c.in_ok-verdicts.verdicts.items
-    c.in_ok-verdicts.ensures in
+    c.in_ok-verdicts.verdicts.items c.in_ok-verdicts.ensures in
     subst (IsReportMade R N reversed c.args.delay c.args.narrow p) (sym c.new.ensures)
-    (report_made g.met.S.Scalar.ring_laws g.met.S.Numeric.numeric_laws p c.vars-vars.ensures.keeps.within
+    (report_made g.met.S.Scalar.ring_laws g.met.S.Numeric.numeric_laws p c.vars.ensures.keeps.within
     c.requires.suits
     c.args.delay c.args.narrow E gives g.met.S.Scalar.number_laws c.in_ok-parts.parts.items
     c.in_ok-verdicts.verdicts.items
-    made judged c.vars-vars.ensures.keeps c.requires.delay c.requires.narrow c.in-Ok.family.passes refl
+    made judged c.vars.ensures.keeps c.requires.delay c.requires.narrow c.in_ok-family.family.passes refl
     (passes_bound R N reversed c.args.delay c.args.narrow p c.in_ok-graph.graph c.in_ok-graph.ensures.graph
-    c.in-Ok.family.passes c.in-Ok.ensures.passes))
+    c.in_ok-family.family.passes c.in_ok-family.ensures.passes))
