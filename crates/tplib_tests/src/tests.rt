@@ -1,7 +1,6 @@
 //! Tables of texts and of runs, a file a kind of input or of fault.
 mod altered;
 mod devices;
-mod harness;
 mod laws;
 mod pairs;
 mod runs;

@@ -1,10 +1,44 @@
 //! Sources and sinks that fail.
-use super::harness::{Run, ends_with};
-use run_examples::{same_ending, split};
+use run_examples::split;
 use std::alloc::Global;
 use std::test::Fail;
 use tplib_cmd::run;
 use trop_io::{MemSink, MemSource};
+
+/// A run over devices that fail: input in pieces of 16 bytes, output in pieces of 8.
+#[derive(Clone, Copy)]
+struct Run {
+    words: &'static str,
+    input: &'static str,
+    /// The room of the sink for the answer.
+    room: usize,
+    /// The numbers of the calls that fail; 0 for none.
+    read_fails: u64,
+    write_fails: u64,
+    err_fails: u64,
+}
+
+/// What such a run leaves.
+#[derive(Drop)]
+struct Left {
+    code: u8,
+    out: Vec<u8>,
+    err: Vec<u8>,
+}
+
+fn left_by(alloc: Global, case: &Run) -> Result<Left, Fail> {
+    let words = split(alloc, case.words)?;
+    let bytes = Vec::from_slice(alloc, case.input.as_bytes())?;
+    let mut input = MemSource::new(bytes, 16, vec![in alloc; case.read_fails]?);
+    let mut out = MemSink::new(alloc, case.room, 8, vec![in alloc; case.write_fails]?)?;
+    let mut err = MemSink::new(alloc, 64, 8, vec![in alloc; case.err_fails]?)?;
+    let status = run(alloc, &words, &mut input, &mut out, &mut err);
+    Ok(Left {
+        code: status.code(),
+        out: Vec::from_slice(alloc, out.bytes())?,
+        err: Vec::from_slice(alloc, err.bytes())?,
+    })
+}
 
 const POINTS: &str = "kind gens\nsemiring max\nvars x\npoint [0]\npoint [1]\npoint [2]\n";
 
@@ -15,22 +49,20 @@ const BELOW: &str = "kind ineqs\nsemiring max\nvars x y\nx <= y\n";
 const CONVERTED: &str =
     "kind gens\nsemiring max\nvars x y\nray [-oo, 0]\nray [0, 0]\npoint [-oo, -oo]\n";
 
-const READ_FAILED: &str = "tplib: read failed\n";
+const READ_FAILED: &[u8] = b"tplib: read failed\n";
 
-const WRITE_FAILED: &str = "tplib: write failed\n";
+const WRITE_FAILED: &[u8] = b"tplib: write failed\n";
 
 const REDUCE: Run = Run {
-    why: "points in a row",
     words: "reduce",
     input: POINTS,
-    room: 4096,
+    room: 256,
     read_fails: 0,
     write_fails: 0,
     err_fails: 0,
 };
 
 const EXT: Run = Run {
-    why: "one inequality",
     words: "ext",
     input: BELOW,
     ..REDUCE
@@ -49,16 +81,24 @@ const READS: [(Run, u64); 9] = [
     (EXT, 4),
 ];
 
-// The line of errors is written whole, or cut off where the second write of it fails.
 #[test]
 fn a_source_that_fails_at_each_call_in_turn(rt: HostRuntime) -> Result<(), Fail> {
     let alloc = rt.alloc();
     for (case, read_fails) in &READS {
-        let mut failing = *case;
-        failing.read_fails = *read_fails;
-        assert!(rt; ends_with(alloc, &failing, 6, "", READ_FAILED)?);
-        failing.err_fails = 2;
-        assert!(rt; ends_with(alloc, &failing, 6, "", "tplib: ")?);
+        let left = left_by(
+            alloc,
+            &Run {
+                read_fails: *read_fails,
+                ..*case
+            },
+        )?;
+        assert_eq!(rt; left.code, 6, "{} {read_fails}", case.words);
+        assert!(rt; left.out.is_empty(), "{} {read_fails}", case.words);
+        assert!(rt;
+            left.err.as_slice() == READ_FAILED,
+            "{} {read_fails}",
+            case.words
+        );
     }
     Ok(())
 }
@@ -104,38 +144,37 @@ const WRITES: [(Run, u64, &str); 17] = [
     ),
 ];
 
-// The line of errors is written whole, or not at all where the first write of it fails.
 #[test]
 fn a_sink_that_fails_at_each_call_in_turn(rt: HostRuntime) -> Result<(), Fail> {
     let alloc = rt.alloc();
     for (case, write_fails, front) in &WRITES {
-        let mut failing = *case;
-        failing.write_fails = *write_fails;
-        assert!(rt; ends_with(alloc, &failing, 7, front, WRITE_FAILED)?);
-        failing.err_fails = 1;
-        assert!(rt; ends_with(alloc, &failing, 7, front, "")?);
+        let left = left_by(
+            alloc,
+            &Run {
+                write_fails: *write_fails,
+                ..*case
+            },
+        )?;
+        assert_eq!(rt; left.code, 7, "{} {write_fails}", case.words);
+        assert!(rt;
+            left.out.as_slice() == front.as_bytes(),
+            "{} {write_fails}",
+            case.words
+        );
+        assert!(rt;
+            left.err.as_slice() == WRITE_FAILED,
+            "{} {write_fails}",
+            case.words
+        );
     }
     Ok(())
 }
 
 // A run, its code, and what it leaves in its two sinks.
-const RUNS: [(Run, u8, &str, &str); 14] = [
+const RUNS: [(Run, u8, &str, &str); 13] = [
     (REDUCE, 0, REDUCED, ""),
     (
         Run {
-            why: "each call behind the last one fails",
-            read_fails: 6,
-            write_fails: 8,
-            err_fails: 1,
-            ..REDUCE
-        },
-        0,
-        REDUCED,
-        "",
-    ),
-    (
-        Run {
-            why: "no call fails, but one that is not made",
             read_fails: 6,
             ..REDUCE
         },
@@ -145,7 +184,6 @@ const RUNS: [(Run, u8, &str, &str); 14] = [
     ),
     (
         Run {
-            why: "no write fails, but one that is not made",
             write_fails: 8,
             ..REDUCE
         },
@@ -155,7 +193,6 @@ const RUNS: [(Run, u8, &str, &str); 14] = [
     ),
     (
         Run {
-            why: "the room is just enough, and the line fails",
             room: 50,
             err_fails: 1,
             ..REDUCE
@@ -165,18 +202,13 @@ const RUNS: [(Run, u8, &str, &str); 14] = [
         "",
     ),
     (
-        Run {
-            why: "one byte less room",
-            room: 49,
-            ..REDUCE
-        },
+        Run { room: 49, ..REDUCE },
         7,
         "kind gens\nsemiring max\nvars x\npoint [0]\npoint [2]",
         "tplib: write failed\n",
     ),
     (
         Run {
-            why: "little room, and the line fails",
             room: 4,
             err_fails: 1,
             ..REDUCE
@@ -187,7 +219,6 @@ const RUNS: [(Run, u8, &str, &str); 14] = [
     ),
     (
         Run {
-            why: "the end of the input fails before any write",
             read_fails: 5,
             write_fails: 1,
             ..REDUCE
@@ -198,7 +229,6 @@ const RUNS: [(Run, u8, &str, &str); 14] = [
     ),
     (
         Run {
-            why: "a read, a write and the line fail",
             read_fails: 2,
             write_fails: 1,
             err_fails: 1,
@@ -210,7 +240,6 @@ const RUNS: [(Run, u8, &str, &str); 14] = [
     ),
     (
         Run {
-            why: "a fault of the text before a failing write",
             input: "kind",
             read_fails: 3,
             write_fails: 1,
@@ -222,7 +251,6 @@ const RUNS: [(Run, u8, &str, &str); 14] = [
     ),
     (
         Run {
-            why: "a failing read before a fault of the text",
             input: "kind",
             read_fails: 2,
             write_fails: 1,
@@ -234,7 +262,6 @@ const RUNS: [(Run, u8, &str, &str); 14] = [
     ),
     (
         Run {
-            why: "an empty input, no room, and the line fails",
             input: "",
             room: 0,
             err_fails: 1,
@@ -246,7 +273,6 @@ const RUNS: [(Run, u8, &str, &str); 14] = [
     ),
     (
         Run {
-            why: "bad words before failing streams",
             words: "reduce now",
             read_fails: 1,
             write_fails: 1,
@@ -258,7 +284,6 @@ const RUNS: [(Run, u8, &str, &str); 14] = [
     ),
     (
         Run {
-            why: "bad words, and the line fails",
             words: "analyze delay=2",
             read_fails: 1,
             write_fails: 1,
@@ -273,42 +298,34 @@ const RUNS: [(Run, u8, &str, &str); 14] = [
 
 #[test]
 fn devices_that_fail_together(rt: HostRuntime) -> Result<(), Fail> {
+    let alloc = rt.alloc();
     for (case, code, out, err) in &RUNS {
-        assert!(rt; ends_with(rt.alloc(), case, *code, out, err)?);
+        let left = left_by(alloc, case)?;
+        assert_eq!(rt; left.code, *code);
+        assert!(rt; left.out.as_slice() == out.as_bytes());
+        assert!(rt; left.err.as_slice() == err.as_bytes());
     }
     Ok(())
 }
 
-// That a text with a comment behind it, of so many bytes in all, ends so.
-fn ends_at_length(
-    alloc: Global,
-    asked: (&str, &str),
-    length: usize,
-    wanted: (u8, &str, &str),
-) -> Result<bool, Fail> {
-    let words = split(alloc, asked.0)?;
-    let mut bytes = Vec::from_slice(alloc, asked.1.as_bytes())?;
-    bytes.resize(length, b'#')?;
-    let mut input = MemSource::new(bytes, 1_048_576, Vec::new(alloc));
-    let mut answer = MemSink::new(alloc, 128, 64, Vec::new(alloc))?;
-    let mut line = MemSink::new(alloc, 64, 64, Vec::new(alloc))?;
-    let status = run(alloc, &words, &mut input, &mut answer, &mut line);
-    same_ending(
-        alloc,
-        (asked.0, asked.1.as_bytes()),
-        (wanted.0, wanted.1.as_bytes(), wanted.2.as_bytes()),
-        (status.code(), answer.bytes(), line.bytes()),
-    )
-}
-
-// The longest input, and one byte more.
+// The longest input, a comment at its end, and one byte more.
 #[test]
 fn inputs_up_to_4194304_bytes(rt: HostRuntime) -> Result<(), Fail> {
     let alloc = rt.alloc();
-    let too_long = (3, "", "tplib: input longer than 4194304 bytes\n");
-    for (words, text, answer) in [("reduce", POINTS, REDUCED), ("ext", BELOW, CONVERTED)] {
-        assert!(rt; ends_at_length(alloc, (words, text), 4_194_304, (0, answer, ""))?);
-        assert!(rt; ends_at_length(alloc, (words, text), 4_194_305, too_long)?);
+    let words = split(alloc, "reduce")?;
+    for (length, code, out, err) in [
+        (4_194_304, 0, REDUCED, ""),
+        (4_194_305, 3, "", "tplib: input longer than 4194304 bytes\n"),
+    ] {
+        let mut bytes = Vec::from_slice(alloc, POINTS.as_bytes())?;
+        bytes.resize(length, b'#')?;
+        let mut input = MemSource::new(bytes, 1_048_576, Vec::new(alloc));
+        let mut answer = MemSink::new(alloc, 64, 64, Vec::new(alloc))?;
+        let mut line = MemSink::new(alloc, 64, 64, Vec::new(alloc))?;
+        let status = run(alloc, &words, &mut input, &mut answer, &mut line);
+        assert_eq!(rt; status.code(), code);
+        assert!(rt; answer.bytes() == out.as_bytes());
+        assert!(rt; line.bytes() == err.as_bytes());
     }
     Ok(())
 }

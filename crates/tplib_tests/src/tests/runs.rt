@@ -1,246 +1,289 @@
-//! Runs over streams in memory, and how they end.
-use super::harness::{Run, calm, ends_with};
-use run_examples::split;
+//! Runs over streams in memory, whose reads and writes fail by their numbers.
+use run_examples::{same_ending, split};
+use std::alloc::Global;
 use std::test::Fail;
 use tplib_cmd::{Status, run};
-use trop_io::{MemSink, SureSink, SureSource};
+use trop_io::{MemSink, MemSource, SureSink, SureSource};
 
-const THREE_POINTS: &str = "kind gens\nsemiring max\nvars x\npoint [0]\npoint [1]\npoint [2]\n";
-
-// A run, its code, and what it leaves in its two sinks.
-fn cases() -> [(Run, u8, &'static str, &'static str); 22] {
-    [
-        (
-            calm("the middle point of three goes", "reduce", THREE_POINTS),
-            0,
-            "kind gens\nsemiring max\nvars x\npoint [0]\npoint [2]\n",
-            "",
-        ),
-        (
-            calm(
-                "a header alone, without its last line end",
-                "reduce",
-                "kind gens\nsemiring max\nvars x",
-            ),
-            0,
-            "kind gens\nsemiring max\nvars x\n",
-            "",
-        ),
-        (
-            calm(
-                "rays are scaled, and one of zeros goes",
-                "reduce",
-                "# rays\nkind gens\nsemiring max\nvars x\nray [3]\nray [-oo]\n",
-            ),
-            0,
-            "kind gens\nsemiring max\nvars x\nray [0]\n",
-            "",
-        ),
-        (
-            calm(
-                "multiples are one row in min",
-                "reduce",
-                "kind gens\nsemiring min\nvars x y\npoint [0, oo]\nray [5, -2]\npoint [1, oo]\nray [6, -1]\n",
-            ),
-            0,
-            "kind gens\nsemiring min\nvars x y\nray [0, -7]\npoint [1, oo]\npoint [0, oo]\n",
-            "",
-        ),
-        (
-            calm(
-                "a sum of two goes in bool",
-                "reduce",
-                "kind gens\nsemiring bool\nvars x y\nray [true, true]\nray [false, true]\nray [true, false]\n",
-            ),
-            0,
-            "kind gens\nsemiring bool\nvars x y\nray [false, true]\nray [true, false]\n",
-            "",
-        ),
-        (
-            Run {
-                read_fails: 2,
-                ..calm("the second read fails", "reduce", THREE_POINTS)
-            },
-            6,
-            "",
-            "tplib: read failed\n",
-        ),
-        (
-            Run {
-                write_fails: 2,
-                ..calm("the second write fails", "reduce", THREE_POINTS)
-            },
-            7,
-            "kind gen",
-            "tplib: write failed\n",
-        ),
-        (
-            calm(
-                "a file of inequalities",
-                "reduce",
-                "kind ineqs\nsemiring max\nvars x\n",
-            ),
-            3,
-            "",
-            "tplib: line 1: wrong kind\n",
-        ),
-        (
-            calm(
-                "a row that is too long",
-                "reduce",
-                "kind gens\nsemiring max\nvars x\npoint [0, 1]\n",
-            ),
-            3,
-            "",
-            "tplib: line 4, column 9: syntax\n",
-        ),
-        (
-            calm(
-                "a number past the limit",
-                "reduce",
-                "kind gens\nsemiring max\nvars x\npoint [1099511627777]\n",
-            ),
-            3,
-            "",
-            "tplib: line 4: number out of range\n",
-        ),
-        (
-            calm(
-                "one inequality",
-                "ext",
-                "kind ineqs\nsemiring max\nvars x y\nx <= y\n",
-            ),
-            0,
-            "kind gens\nsemiring max\nvars x y\nray [-oo, 0]\nray [0, 0]\npoint [-oo, -oo]\n",
-            "",
-        ),
-        (
-            calm(
-                "one inequality in min",
-                "ext",
-                "kind ineqs\nsemiring min\nvars x y\nx >= y\n",
-            ),
-            0,
-            "kind gens\nsemiring min\nvars x y\nray [oo, 0]\nray [0, 0]\npoint [oo, oo]\n",
-            "",
-        ),
-        (
-            calm(
-                "two implications",
-                "ext",
-                "kind ineqs\nsemiring bool\nvars x y z\nx => y\ny => z\n",
-            ),
-            0,
-            "kind gens\nsemiring bool\nvars x y z\nray [false, false, true]\nray [false, true, true]\nray [true, true, true]\npoint [false, false, false]\n",
-            "",
-        ),
-        (
-            calm(
-                "a number past the limit in a later line",
-                "ext",
-                "kind ineqs\nsemiring max\nvars x\n0 <= x\nx <= 1099511627777\n",
-            ),
-            3,
-            "",
-            "tplib: line 5: number out of range\n",
-        ),
-        (
-            calm(
-                "two hyperedges and two types",
-                "tangent",
-                "kind at\nsemiring max\nvars x y\nx <= y\ny <= x\nat [-oo, 0, 0]\n",
-            ),
-            0,
-            "edge 1: y -> x\nedge 2: x -> y\ntypes: x y\nextreme: yes\n",
-            "",
-        ),
-        (
-            calm(
-                "no solution",
-                "tangent",
-                "kind at\nsemiring max\nvars x y\nx <= y\ny <= x\nat [0, 1, 0]\n",
-            ),
-            1,
-            "not a solution: inequality 1\n",
-            "",
-        ),
-        (
-            Run {
-                read_fails: 1,
-                ..calm(
-                    "words that are no command leave the input",
-                    "reduce now",
-                    THREE_POINTS,
-                )
-            },
-            2,
-            "",
-            "tplib: bad words\n",
-        ),
-        (
-            calm("no report at all", "check", ""),
-            3,
-            "",
-            "tplib: line 1, column 1: syntax\n",
-        ),
-        (
-            calm(
-                "an empty program, with a narrowing pass",
-                "analyze mode=max delay=0 narrow=1",
-                "vars;",
-            ),
-            0,
-            "report 2\nmode max\ndelay 0\nnarrow 1\npasses 1\nprogram\nvars;\nend\nat 0 exit\npoint []\nend\n",
-            "",
-        ),
-        (
-            calm(
-                "a block without rows",
-                "check",
-                "report 1\nmode max\ndelay 0\npasses 1\nprogram\nvars; end\nat 0 exit\nend\n",
-            ),
-            3,
-            "",
-            "tplib: line 8: report fault\n",
-        ),
-        (
-            calm(
-                "nothing at the entry",
-                "check",
-                "report 1\nmode max\ndelay 0\npasses 1\nprogram\nvars; end\nat 0 exit\nunreachable\nend\n",
-            ),
-            1,
-            "not whole\n",
-            "",
-        ),
-        (
-            Run {
-                write_fails: 2,
-                ..calm(
-                    "a write of the answer yes fails",
-                    "check",
-                    "report 1\nmode max\ndelay 0\npasses 1\nprogram\nvars; end\nat 0 exit\npoint []\nend\n",
-                )
-            },
-            7,
-            "inductiv",
-            "tplib: write failed\n",
-        ),
-    ]
+/// A run, and what it is to end with.
+struct Case {
+    words: &'static str,
+    input: &'static [u8],
+    /// The numbers of the read and of the write that fail; 0 for none.
+    read_fails: u64,
+    write_fails: u64,
+    code: u8,
+    out: &'static [u8],
+    err: &'static [u8],
 }
+
+// Input in pieces of 16 bytes, output in pieces of 8.
+fn ends_so(alloc: Global, case: &Case) -> Result<bool, Fail> {
+    let words = split(alloc, case.words)?;
+    let bytes = Vec::from_slice(alloc, case.input)?;
+    let mut input = MemSource::new(bytes, 16, vec![in alloc; case.read_fails]?);
+    let mut out = MemSink::new(alloc, 4096, 8, vec![in alloc; case.write_fails]?)?;
+    let mut err = MemSink::new(alloc, 4096, 8, Vec::new(alloc))?;
+    let status = run(alloc, &words, &mut input, &mut out, &mut err);
+    same_ending(
+        alloc,
+        (case.words, case.input),
+        (case.code, case.out, case.err),
+        (status.code(), out.bytes(), err.bytes()),
+    )
+}
+
+const THREE_POINTS: &[u8] = b"kind gens\nsemiring max\nvars x\npoint [0]\npoint [1]\npoint [2]\n";
+
+const CASES: [Case; 22] = [
+    Case {
+        words: "reduce",
+        input: THREE_POINTS,
+        read_fails: 0,
+        write_fails: 0,
+        code: 0,
+        out: b"kind gens\nsemiring max\nvars x\npoint [0]\npoint [2]\n",
+        err: b"",
+    },
+    Case {
+        words: "reduce",
+        input: b"kind gens\nsemiring max\nvars x",
+        read_fails: 0,
+        write_fails: 0,
+        code: 0,
+        out: b"kind gens\nsemiring max\nvars x\n",
+        err: b"",
+    },
+    Case {
+        words: "reduce",
+        input: b"# rays\nkind gens\nsemiring max\nvars x\nray [3]\nray [-oo]\n",
+        read_fails: 0,
+        write_fails: 0,
+        code: 0,
+        out: b"kind gens\nsemiring max\nvars x\nray [0]\n",
+        err: b"",
+    },
+    Case {
+        words: "reduce",
+        input: b"kind gens\nsemiring min\nvars x y\npoint [0, oo]\nray [5, -2]\npoint [1, oo]\nray [6, -1]\n",
+        read_fails: 0,
+        write_fails: 0,
+        code: 0,
+        out: b"kind gens\nsemiring min\nvars x y\nray [0, -7]\npoint [1, oo]\npoint [0, oo]\n",
+        err: b"",
+    },
+    Case {
+        words: "reduce",
+        input: b"kind gens\nsemiring bool\nvars x y\nray [true, true]\nray [false, true]\nray [true, false]\n",
+        read_fails: 0,
+        write_fails: 0,
+        code: 0,
+        out: b"kind gens\nsemiring bool\nvars x y\nray [false, true]\nray [true, false]\n",
+        err: b"",
+    },
+    Case {
+        words: "reduce",
+        input: THREE_POINTS,
+        read_fails: 2,
+        write_fails: 0,
+        code: 6,
+        out: b"",
+        err: b"tplib: read failed\n",
+    },
+    Case {
+        words: "reduce",
+        input: THREE_POINTS,
+        read_fails: 0,
+        write_fails: 2,
+        code: 7,
+        out: b"kind gen",
+        err: b"tplib: write failed\n",
+    },
+    Case {
+        words: "reduce",
+        input: b"kind ineqs\nsemiring max\nvars x\n",
+        read_fails: 0,
+        write_fails: 0,
+        code: 3,
+        out: b"",
+        err: b"tplib: line 1: wrong kind\n",
+    },
+    Case {
+        words: "reduce",
+        input: b"kind gens\nsemiring max\nvars x\npoint [0, 1]\n",
+        read_fails: 0,
+        write_fails: 0,
+        code: 3,
+        out: b"",
+        err: b"tplib: line 4, column 9: syntax\n",
+    },
+    Case {
+        words: "reduce",
+        input: b"kind gens\nsemiring max\nvars x\npoint [1099511627777]\n",
+        read_fails: 0,
+        write_fails: 0,
+        code: 3,
+        out: b"",
+        err: b"tplib: line 4: number out of range\n",
+    },
+    Case {
+        words: "ext",
+        input: b"kind ineqs\nsemiring max\nvars x y\nx <= y\n",
+        read_fails: 0,
+        write_fails: 0,
+        code: 0,
+        out: b"kind gens\nsemiring max\nvars x y\nray [-oo, 0]\nray [0, 0]\npoint [-oo, -oo]\n",
+        err: b"",
+    },
+    Case {
+        words: "ext",
+        input: b"kind ineqs\nsemiring min\nvars x y\nx >= y\n",
+        read_fails: 0,
+        write_fails: 0,
+        code: 0,
+        out: b"kind gens\nsemiring min\nvars x y\nray [oo, 0]\nray [0, 0]\npoint [oo, oo]\n",
+        err: b"",
+    },
+    Case {
+        words: "ext",
+        input: b"kind ineqs\nsemiring bool\nvars x y z\nx => y\ny => z\n",
+        read_fails: 0,
+        write_fails: 0,
+        code: 0,
+        out: b"kind gens\nsemiring bool\nvars x y z\nray [false, false, true]\nray [false, true, true]\nray [true, true, true]\npoint [false, false, false]\n",
+        err: b"",
+    },
+    Case {
+        words: "ext",
+        input: b"kind ineqs\nsemiring max\nvars x\n0 <= x\nx <= 1099511627777\n",
+        read_fails: 0,
+        write_fails: 0,
+        code: 3,
+        out: b"",
+        err: b"tplib: line 5: number out of range\n",
+    },
+    Case {
+        words: "tangent",
+        input: b"kind at\nsemiring max\nvars x y\nx <= y\ny <= x\nat [-oo, 0, 0]\n",
+        read_fails: 0,
+        write_fails: 0,
+        code: 0,
+        out: b"edge 1: y -> x\nedge 2: x -> y\ntypes: x y\nextreme: yes\n",
+        err: b"",
+    },
+    Case {
+        words: "tangent",
+        input: b"kind at\nsemiring max\nvars x y\nx <= y\ny <= x\nat [0, 1, 0]\n",
+        read_fails: 0,
+        write_fails: 0,
+        code: 1,
+        out: b"not a solution: inequality 1\n",
+        err: b"",
+    },
+    Case {
+        words: "reduce now",
+        input: THREE_POINTS,
+        read_fails: 1,
+        write_fails: 0,
+        code: 2,
+        out: b"",
+        err: b"tplib: bad words\n",
+    },
+    Case {
+        words: "check",
+        input: b"",
+        read_fails: 0,
+        write_fails: 0,
+        code: 3,
+        out: b"",
+        err: b"tplib: line 1, column 1: syntax\n",
+    },
+    Case {
+        words: "analyze mode=max delay=0 narrow=1",
+        input: b"vars;",
+        read_fails: 0,
+        write_fails: 0,
+        code: 0,
+        out: b"report 2\nmode max\ndelay 0\nnarrow 1\npasses 1\nprogram\nvars;\nend\nat 0 exit\npoint []\nend\n",
+        err: b"",
+    },
+    Case {
+        words: "check",
+        input: b"report 1\nmode max\ndelay 0\npasses 1\nprogram\nvars; end\nat 0 exit\nend\n",
+        read_fails: 0,
+        write_fails: 0,
+        code: 3,
+        out: b"",
+        err: b"tplib: line 8: report fault\n",
+    },
+    Case {
+        words: "check",
+        input: b"report 1\nmode max\ndelay 0\npasses 1\nprogram\nvars; end\nat 0 exit\nunreachable\nend\n",
+        read_fails: 0,
+        write_fails: 0,
+        code: 1,
+        out: b"not whole\n",
+        err: b"",
+    },
+    Case {
+        words: "check",
+        input: b"report 1\nmode max\ndelay 0\npasses 1\nprogram\nvars; end\nat 0 exit\npoint []\nend\n",
+        read_fails: 0,
+        write_fails: 2,
+        code: 7,
+        out: b"inductiv",
+        err: b"tplib: write failed\n",
+    },
+];
 
 #[test]
 fn runs_and_how_they_end(rt: HostRuntime) -> Result<(), Fail> {
-    for (case, code, out, err) in &cases() {
-        assert!(rt; ends_with(rt.alloc(), case, *code, out, err)?);
+    let alloc = rt.alloc();
+    for case in &CASES {
+        assert!(rt; ends_so(alloc, case)?, "{}", case.words);
     }
+    Ok(())
+}
+
+const ANSWER: &[u8] = b"kind gens\nsemiring max\nvars x\npoint [0]\npoint [2]\n";
+
+// A run of the three points whose reads, writes and reports with these numbers fail.
+fn fails_at(
+    alloc: Global,
+    read: u64,
+    write: u64,
+    report: u64,
+) -> Result<(u8, MemSink, MemSink), Fail> {
+    let words = vec![in alloc; String::from_str(alloc, "reduce")?]?;
+    let bytes = Vec::from_slice(alloc, THREE_POINTS)?;
+    let mut input = MemSource::new(bytes, 16, vec![in alloc; read]?);
+    let mut out = MemSink::new(alloc, 4096, 8, vec![in alloc; write]?)?;
+    let mut err = MemSink::new(alloc, 4096, 8, vec![in alloc; report]?)?;
+    let status = run(alloc, &words, &mut input, &mut out, &mut err);
+    Ok((status.code(), out, err))
+}
+
+#[test]
+fn streams_that_fail_at_each_call_in_turn(rt: HostRuntime) -> Result<(), Fail> {
+    let alloc = rt.alloc();
+    for read in 1..=5 {
+        let (code, out, err) = fails_at(alloc, read, 0, 2)?;
+        assert!(rt; code == 6 && out.bytes().is_empty() && err.bytes() == b"tplib: ".as_slice());
+    }
+    for write in 1..=7 {
+        let (code, out, err) = fails_at(alloc, 0, write, 1)?;
+        assert!(rt; code == 7 && ANSWER.starts_with(out.bytes()) && err.bytes().is_empty());
+        assert!(rt; out.bytes().len() as u64 + 8 == 8 * write);
+    }
+    let (code, out, err) = fails_at(alloc, 6, 8, 1)?;
+    assert!(rt; code == 0 && out.bytes() == ANSWER && err.bytes().is_empty());
     Ok(())
 }
 
 #[test]
 fn an_input_that_is_one_byte_too_long(rt: HostRuntime) -> Result<(), Fail> {
     let alloc = rt.alloc();
-    let words = split(alloc, "ext")?;
+    let words = vec![in alloc; String::from_str(alloc, "reduce")?]?;
     let mut input = SureSource::new(vec![in alloc; b' '; 4_194_305]?, 65_536);
     let mut err = MemSink::new(alloc, 64, 64, Vec::new(alloc))?;
     let status = run(alloc, &words, &mut input, &mut SureSink::new(), &mut err);
