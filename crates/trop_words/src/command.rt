@@ -21,8 +21,8 @@ pub enum Command<'a> {
     Reduce,
     /// The canonical list of the solutions of inequalities.
     Ext,
-    /// The inequalities whose solutions are the combinations of rows; where `lean`, those that none of the others
-    /// makes spare, with rows that show it.
+    /// The inequalities whose solutions are the combinations of rows; where `lean`, those of them that stay when, one
+    /// after another, each that follows from the rest is dropped, with rows that show it.
     Int { lean: bool },
     /// The tangent hypergraph of a system at a row.
     Tangent,
@@ -36,7 +36,7 @@ pub enum Command<'a> {
     Meet,
     /// The cone without what it says of one variable, by its name of at most 32 bytes.
     Forget { var: &'a str },
-    /// One run of a program, of at most `turns` configurations, 0 to 10,000.
+    /// One run of a program, of at most `turns` steps, 0 to 10,000.
     Trace { turns: u32 },
     /// The invariants of a program. The first `delay` changes of a loop's head, 0 to 1,000, are joins; `narrow`
     /// descending passes, 0 to 100, follow.
