@@ -98,10 +98,10 @@ fn turn<S: Scalar>(
 
 /// The lean list of a system. Its inequalities are taken in order, and each is dropped where it is valid on the
 /// solutions of the rest, the system as it stands then without it. Else it stays, and its row is the first of the
-/// canonical list of
-/// the solutions of the rest at which it is false. The list has the solutions of the system, and each row makes its
-/// inequality false and the others true. `Rows(k, j)` comes exactly where `k` is the first turn, from 1, at which some
-/// front of the rest has more than 4,096 extreme rows, and the first `j` inequalities are the least such front.
+/// canonical list of the solutions of the rest at which it is false. The list has the solutions of the system, and
+/// each row makes its inequality false and the others true. `Rows(k, j)` comes exactly where `k` is the first turn,
+/// from 1, at which some front of the rest has more than 4,096 extreme rows, and the first `j` inequalities are the
+/// least such front.
 pub fn lean<S: Scalar>(
     alloc: Global,
     system: &System<S>,
