@@ -165,7 +165,9 @@ fn copies<S: Scalar>(alloc: Global, rows: &[Row<S>]) -> Result<Vec<Row<S>>, NoMe
 /// The canonical list of the vectors of a cone at which an inequality is true, from the canonical list of the cone.
 /// `Limit` comes exactly where the smaller cone has more than 4,096 extreme rows.
 ///
-/// Beside the rows it holds copies of them and the rows of the answer, and no list of pairs.
+/// They are the rows at which it is true, and those of the mixed rows of the elementary step (Allamigeon, Gaubert,
+/// Goubault, The tropical double description method, 2010) that are minimal at some coordinate. Beside the rows it holds
+/// copies of them and the rows of the answer, and no list of pairs.
 pub fn guard<S: Scalar>(alloc: Global, gens: &Gens<S>, ineq: &Ineq<S>) -> Result<Gens<S>, GuardErr>
     requires inside { IsIn gens.now.n ineq.now }
     requires canonical { IsCanonical S.ring (IsCombination S.ring gens.now.n gens.now.rows) gens.now.rows }
