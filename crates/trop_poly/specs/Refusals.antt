@@ -28,9 +28,8 @@ IsExternalRefusal R n rows (Rows k) = ⊥
 IsExternalRefusal R n rows (Polar i k) = IsPolarStop R n rows i k
 IsExternalRefusal R n rows NoMemory = Unit {0}
 
--- of the external list of the other cone, whose canonical list is given, the first k inequalities are the least front
--- whose
--- solutions have too large a part in common with the cone
+-- of the external list of the other cone, whose canonical list is given, the first k inequalities are the least
+-- front whose solutions have too large a part in common with the cone
 abbrev pub IsMeetStopOf : {V : Type 0} → Semiring V → ℕ → (List V → Type 0) → List (List V) → ℕ → Type 0
 IsMeetStopOf {V} R n cone other k = (system : List (Inequality V)) × IsExternal R n (IsCombination R n other) system
     × IsMeetStop R cone n system k

@@ -29,9 +29,8 @@ fn first_of<S: Scalar>(rows: &[Row<S>], gens: &Gens<S>) -> Option<u32>
 }
 
 impl<S: Scalar> Poly<S> {
-    /// The place of the first row of this cone's canonical list that is outside of the other cone; none exactly where
-    /// this
-    /// cone lies in the other.
+    /// The place of the first row of this cone's canonical list that is outside of the other cone; none exactly
+    /// where this cone lies in the other.
     pub fn first_outside(&self, other: &Poly<S>) -> Option<u32>
         requires width { self.now.n ≡ other.now.n }
         requires size { rows_size S.ring self.now.rows ≤ most_mixed }

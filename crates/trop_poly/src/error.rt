@@ -9,10 +9,9 @@ pub enum PolyErr {
     /// 4,096 extreme rows.
     #[error("with {0} inequalities there are more than 4096 extreme rows")]
     Rows(u32),
-    /// The external list stops at a coordinate, from 0, and a number of rows, from 1: that polar of as many rows has
-    /// more
-    /// than 4,096 extreme rows, or with all rows the list has more than 4,096 inequalities for the coordinates up to
-    /// it.
+    /// The external list stops at a coordinate, from 0, and a number of rows, from 1: that polar of as many rows
+    /// has more than 4,096 extreme rows, or with all rows the list has more than 4,096 inequalities for the
+    /// coordinates up to it.
     #[error("the external list stops at coordinate {0} with {1} rows")]
     Polar(u32, u32),
     /// Want of memory.

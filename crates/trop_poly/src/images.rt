@@ -195,9 +195,8 @@ impl<S: Scalar> Poly<S> {
         Poly::from_gens(alloc, &rows)
     }
 
-    /// All vectors that agree with one of the cone outside of coordinate `i`: its rows with entry `i` cleared, and the
-    /// unit
-    /// row of `i`, generate them. `Rows(0)` comes exactly where they have more than 4,096 extreme rows.
+    /// All vectors that agree with one of the cone outside of coordinate `i`: its rows with entry `i` cleared, and
+    /// the unit row of `i`, generate them. `Rows(0)` comes exactly where they have more than 4,096 extreme rows.
     pub fn forget(&self, alloc: Global, i: u32) -> Result<Poly<S>, PolyErr>
         requires within { i < self.now.n }
         requires size { rows_size S.ring self.now.rows ≤ most_mixed }
@@ -211,8 +210,7 @@ impl<S: Scalar> Poly<S> {
     }
 
     /// The vectors of the cone, their entry `i` replaced by `c` times the entry at `from`. `Rows(0)` comes exactly
-    /// where
-    /// they have more than 4,096 extreme rows.
+    /// where they have more than 4,096 extreme rows.
     pub fn assign(&self, alloc: Global, i: u32, from: u32, c: S) -> Result<Poly<S>, PolyErr>
         requires within { i < self.now.n }
         requires inside { from < self.now.n }

@@ -1,7 +1,6 @@
-//! Cones that are kept as their canonical list, and what is done with them: made from inequalities or from rows, turned
-//! into inequalities, compared, joined, met, projected, assigned to and narrowed. Each operation gives exactly the set
-//! of
-//! its definition, or says why it cannot. Everything is generic over the semiring.
+//! Cones that are kept as their canonical list, and what is done with them: made from inequalities or from rows,
+//! turned into inequalities, compared, joined, met, projected, assigned to and narrowed. Each operation gives
+//! exactly the set of its definition, or says why it cannot. Everything is generic over the semiring.
 #![tactic(auto)]
 
 mod bounds;

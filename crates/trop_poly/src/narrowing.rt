@@ -112,12 +112,9 @@ impl<S: Scalar> Poly<S> {
     }
 
     /// The vectors that are in both cones: the part of this one that solves the external list of the other, one
-    /// inequality
-    /// after another. `Polar(i, k)` comes exactly where the external list of the other stops there, and `Rows(k)` where
-    /// it
-    /// does not, and k is the least number whose first k inequalities leave a part of this cone with more than 4,096
-    /// extreme
-    /// rows.
+    /// inequality after another. `Polar(i, k)` comes exactly where the external list of the other stops there, and
+    /// `Rows(k)` where it does not, and k is the least number whose first k inequalities leave a part of this cone
+    /// with more than 4,096 extreme rows.
     pub fn meet(&self, alloc: Global, other: &Poly<S>) -> Result<Poly<S>, PolyErr>
         requires width { self.now.n ≡ other.now.n }
         requires size { rows_size S.ring self.now.rows ≤ most_met }

@@ -82,10 +82,9 @@ impl<S: Scalar> Poly<S> {
         Poly::from_canonical(Gens::new(alloc, n))
     }
 
-    /// The solutions of the system. `Rows(k)` comes exactly where k is the least number whose first k inequalities have
-    /// more than 4,096 extreme rows. Where the coefficients have size at most M, the rows have size at most 4 M (n -
-    /// 1),
-    /// and any two finite entries of a row differ by no more.
+    /// The solutions of the system. `Rows(k)` comes exactly where k is the least number whose first k inequalities
+    /// have more than 4,096 extreme rows. Where the coefficients have size at most M, the rows have size at most 4
+    /// M (n - 1), and any two finite entries of a row differ by no more.
     pub fn from_system(alloc: Global, system: &System<S>) -> Result<Poly<S>, PolyErr>
         requires size { system_size S.ring system.now.inequalities ≤ most_coefficient }
         ensures width { IfOk result (λ cone. cone.n ≡ system.now.n) }
@@ -108,9 +107,8 @@ impl<S: Scalar> Poly<S> {
         }
     }
 
-    /// The combinations of the rows. `Rows(0)` comes exactly where they have more than 4,096 extreme rows, and so never
-    /// of
-    /// 4,096 rows or fewer.
+    /// The combinations of the rows. `Rows(0)` comes exactly where they have more than 4,096 extreme rows, and so
+    /// never of 4,096 rows or fewer.
     pub fn from_gens(alloc: Global, gens: &Gens<S>) -> Result<Poly<S>, PolyErr>
         requires size { rows_size S.ring gens.now.rows ≤ most_mixed }
         ensures width { IfOk result (λ cone. cone.n ≡ gens.now.n) }
@@ -159,13 +157,12 @@ impl<S: Scalar> Poly<S> {
         Ok(Poly::from_canonical(rows))
     }
 
-    /// The external list of the cone: for each coordinate `i` in order the rows of the canonical list of the i-th polar
-    /// with finite entry `i`, each scaled so that this entry is the one and read as a bound on the coordinate. Its
-    /// solutions are exactly the cone. `Polar(i, k)` comes exactly where this is the first pair, by the coordinate and
-    /// then by the number of rows, that is over the limit: the i-th polar of the first k rows has more than 4,096
-    /// extreme
-    /// rows, or k is the number of all rows and the list has more than 4,096 inequalities for the coordinates up to i
-    /// (Gaubert, Katz, The tropical analogue of polar cones, 2009).
+    /// The external list of the cone: for each coordinate `i` in order the rows of the canonical list of the i-th
+    /// polar with finite entry `i`, each scaled so that this entry is the one and read as a bound on the
+    /// coordinate. Its solutions are exactly the cone. `Polar(i, k)` comes exactly where this is the first pair, by
+    /// the coordinate and then by the number of rows, that is over the limit: the i-th polar of the first k rows
+    /// has more than 4,096 extreme rows, or k is the number of all rows and the list has more than 4,096
+    /// inequalities for the coordinates up to i (Gaubert, Katz, The tropical analogue of polar cones, 2009).
     pub fn external(&self, alloc: Global) -> Result<System<S>, PolyErr>
         requires size { rows_size S.ring self.now.rows ≤ most_bounded }
         ensures width { IfOk result (λ system. system.n ≡ self.now.n) }
