@@ -12,4 +12,5 @@ pub mod KindLaws
 pub mod EachKind
 pub mod WrittenParts
 pub mod Lengths
+pub mod NamePlaces
 pub mod ReadSizes

@@ -82,8 +82,22 @@ fn behind_minus<S: Spelling>(piece: Piece<'_>, bound: u64) -> Result<S, FaultKin
     }
 }
 
+// The token behind a `-`.
+#[tactic(auto, unfolding(trop_grammar::specs::Reading::token_at))]
+fn negative<'a, S: Spelling>(at: Pieces<'a>, bound: u64) -> Result<(S, Pieces<'a>), ReadErr<'a>>
+    requires { bound ≤ 2 ^ 48 }
+    ensures gives { Gives (λ x. (x.0, pieces_left x.1)) result
+        (token_at Syntax (spec.behind_minus S.KIND S.ring S.numbering bound) (pieces_left at.entry)) }
+    ensures source { IfOk result (λ x. pieces_source x.1 ≡ pieces_source at.entry) }
+{
+    match at.next() {
+        Some((piece, rest)) => settle(behind_minus(piece, bound), at, rest),
+        None => Err(ReadErr::Wrong(FaultKind::Syntax, at)),
+    }
+}
+
 // What stands behind the first token of a number or of `-oo`.
-#[tactic(auto, unfolding(trop_grammar::specs::Reading::token_at, trop_grammar::specs::Reading::gives, crate::specs::Elements::behind_at))]
+#[tactic(auto, unfolding(trop_grammar::specs::Reading::gives, crate::specs::Elements::behind_at))]
 pub(crate) fn element_rest<'a, S: Spelling>(
     start: Option<S>,
     at: Pieces<'a>,
@@ -94,10 +108,9 @@ pub(crate) fn element_rest<'a, S: Spelling>(
         (spec.behind_at (spec.behind_minus S.KIND S.ring S.numbering bound) start (pieces_left at.entry)) }
     ensures source { IfOk result (λ x. pieces_source x.1 ≡ pieces_source at.entry) }
 {
-    match (start, at.next()) {
-        (Some(x), _) => Ok((x, at)),
-        (None, Some((piece, rest))) => settle(behind_minus(piece, bound), at, rest),
-        (None, None) => Err(ReadErr::Wrong(FaultKind::Syntax, at)),
+    match start {
+        Some(x) => Ok((x, at)),
+        None => negative(at, bound),
     }
 }
 
@@ -181,7 +194,7 @@ pub fn row_entries<'a, S: Spelling>(
     ensures source { IfOk result (λ x. pieces_source x.1 ≡ pieces_source at.entry) }
     ensures length { IfOk result (λ x. vec_len x.0 ≡ len) }
 {
-    let mut row = Vec::new(alloc);
+    let mut row = Vec::with_capacity(alloc, len as usize)?;
     let rest = said(at, b"[")?;
     if len == 0 {
         let rest = said(rest, b"]")?;

@@ -1,5 +1,7 @@
 //! Terms and sides.
-ghost use Rattle.std.specs.Prelude.{◌≡◌, ◌+◌, ◌≤◌, ◌<◌, ◌^◌, IfOk, codes, length};
+ghost use Rattle.std.specs.Prelude.{◌≡◌, ◌+◌, ◌≤◌, ◌<◌, ◌^◌, IfOk, IfSome, IsTrue, Some, codes, length};
+ghost use Rattle.trop_text.specs.Name.{is_name};
+ghost use Rattle.trop_text.specs.Names.{AreNames, place_of};
 ghost use Rattle.trop_grammar.specs.Reading.{token_at};
 ghost use Rattle.trop_grammar.specs.Lists.{separated_step, next_of};
 ghost use Rattle.trop_text.specs.Pieces.{piece_of, pieces_left, pieces_source};
@@ -15,7 +17,7 @@ use std::alloc::{AllocError, Global};
 use trop_reading::{ReadErr, is_digits, number, said, says, settle, text_of};
 use trop_row::Row;
 use trop_scalar::Scalar;
-use trop_text::{FaultKind, Names, Piece, Pieces, as_name};
+use trop_text::{FaultKind, Names, Piece, Pieces, as_name, is_name};
 
 /// What a term begins with.
 #[derive(Clone, Copy, Drop)]
@@ -37,24 +39,53 @@ pub struct Term<S> {
     pub coefficient: S,
 }
 
-// A name of a variable.
+// Whether the name at the place is this one.
+fn is_at(names: &Names, place: u32, name: &[u8]) -> bool
+    ensures place { IsTrue result → place_of name.now names.now ≡ Some place }
+    ensures names { AreNames names.now }
+{
+    place < names.len() && names.name(place).as_bytes() == name
+}
+
+// The place of a name, from 0. The name at the place `near` is looked at first.
+#[tactic(auto, using(crate::proofs::NamePlaces::found_name, crate::proofs::NamePlaces::no_name_nowhere))]
+fn place_near(names: &Names, name: &[u8], near: u32) -> Option<u32>
+    requires { length names.now ≤ 63 }
+    ensures place { result ≡ place_of name.now names.now }
+    ensures name { IfSome result (λ _. IsTrue (is_name name.now)) }
+    ensures within { IfSome result (λ i. i < 63) }
+{
+    if is_at(names, near, name) {
+        return Some(near);
+    }
+    match as_name(name) {
+        Some(name) => names.position(name),
+        None => None,
+    }
+}
+
+// A name of a variable, most likely of the one at the place `near`.
 #[tactic(auto, unfolding(crate::specs::Inequalities::variable))]
-fn variable<S: Scalar>(names: &Names, piece: Piece<'_>) -> Result<Start<S>, FaultKind>
+fn variable<S: Scalar>(names: &Names, near: u32, piece: Piece<'_>) -> Result<Start<S>, FaultKind>
     requires { length names.now ≤ 63 }
     ensures { result ≡ spec.variable names.now (piece_of piece.entry) }
 {
-    let Some(name) = as_name(text_of(piece)) else {
-        return Err(FaultKind::Syntax);
-    };
-    match names.position(name) {
+    let text = text_of(piece);
+    match place_near(names, text, near) {
         Some(place) => Ok(Start::Variable(place + 1)),
-        None => Err(FaultKind::UnknownName),
+        None if is_name(text) => Err(FaultKind::UnknownName),
+        None => Err(FaultKind::Syntax),
     }
 }
 
 // A number, a `-` or a variable.
 #[tactic(auto, unfolding(crate::specs::Inequalities::max_term))]
-fn max_term<S: Scalar>(names: &Names, piece: Piece<'_>, bound: u64) -> Result<Start<S>, FaultKind>
+fn max_term<S: Scalar>(
+    names: &Names,
+    near: u32,
+    piece: Piece<'_>,
+    bound: u64,
+) -> Result<Start<S>, FaultKind>
     requires names { length names.now ≤ 63 }
     requires bound { bound ≤ 2 ^ 48 }
     ensures { result ≡ spec.max_term S.numbering bound names.now (piece_of piece.entry) }
@@ -63,7 +94,7 @@ fn max_term<S: Scalar>(names: &Names, piece: Piece<'_>, bound: u64) -> Result<St
         return Ok(Start::Minus);
     }
     if !is_digits(piece) {
-        return variable(names, piece);
+        return variable(names, near, piece);
     }
     let n = number(piece, bound)?;
     Ok(Start::Constant(S::of_number(n as i64)))
@@ -73,6 +104,7 @@ fn max_term<S: Scalar>(names: &Names, piece: Piece<'_>, bound: u64) -> Result<St
 #[tactic(auto, unfolding(crate::specs::Inequalities::term_start))]
 fn term_start<S: Spelling>(
     names: &Names,
+    near: u32,
     piece: Piece<'_>,
     bound: u64,
 ) -> Result<Start<S>, FaultKind>
@@ -81,12 +113,12 @@ fn term_start<S: Spelling>(
     ensures { result ≡ spec.term_start S.KIND S.ring S.numbering bound names.now (piece_of piece.entry) }
 {
     match S::KIND {
-        RingKind::Max => max_term(names, piece, bound),
+        RingKind::Max => max_term(names, near, piece, bound),
         RingKind::Min if says(piece, b"oo") => Ok(Start::Constant(S::zero())),
-        RingKind::Min => max_term(names, piece, bound),
+        RingKind::Min => max_term(names, near, piece, bound),
         RingKind::Bool if says(piece, b"true") => Ok(Start::Constant(S::one())),
         RingKind::Bool if says(piece, b"false") => Ok(Start::Constant(S::zero())),
-        RingKind::Bool => variable(names, piece),
+        RingKind::Bool => variable(names, near, piece),
     }
 }
 
@@ -224,10 +256,11 @@ fn term_rest<'a, S: Spelling>(
     }
 }
 
-// A term.
+// A term, most likely of the variable at the place `near`.
 #[tactic(auto, unfolding(trop_grammar::specs::Reading::token_at, trop_grammar::specs::Reading::read_then, crate::specs::Inequalities::term_at))]
 fn read_term<'a, S: Spelling>(
     names: &Names,
+    near: u32,
     at: Pieces<'a>,
     bound: u64,
 ) -> Result<(Term<S>, Pieces<'a>), ReadErr<'a>>
@@ -240,7 +273,7 @@ fn read_term<'a, S: Spelling>(
     let Some((piece, rest)) = at.next() else {
         return Err(ReadErr::Wrong(FaultKind::Syntax, at));
     };
-    let (start, rest) = settle(term_start(names, piece, bound), at, rest)?;
+    let (start, rest) = settle(term_start(names, near, piece, bound), at, rest)?;
     term_rest(start, rest, bound)
 }
 
@@ -254,6 +287,14 @@ fn between_terms(piece: Piece<'_>) -> Result<bool, FaultKind>
         Ok(false)
     } else {
         Err(FaultKind::Syntax)
+    }
+}
+
+// The place of the variable that mostly follows these terms: the one behind that of the last term.
+fn next_place<S: Scalar>(terms: &[Term<S>]) -> u32 {
+    match terms {
+        [.., last] => last.coordinate,
+        [] => 0,
     }
 }
 
@@ -272,7 +313,7 @@ fn next_term<'a, S: Spelling>(
         terms.old.items (pieces_left at.entry)) }
     ensures source { IfOk result (λ x. pieces_source x.1 ≡ pieces_source at.entry) }
 {
-    let (term, at) = read_term(names, at, bound)?;
+    let (term, at) = read_term(names, next_place(terms.as_slice()), at, bound)?;
     let Some((piece, rest)) = at.next() else {
         return Err(ReadErr::Wrong(FaultKind::Syntax, at));
     };
@@ -294,7 +335,7 @@ fn terms<'a, S: Spelling>(
         (spec.terms_at S.KIND S.ring S.numbering bound names.now (pieces_left at.entry)) }
     ensures source { IfOk result (λ x. pieces_source x.1 ≡ pieces_source at.entry) }
 {
-    let mut terms = Vec::new(alloc);
+    let mut terms = Vec::with_capacity(alloc, names.len() as usize + 1)?;
     let mut rest = at;
     'terms: loop {
         let (more, after) = next_term(&mut terms, names, rest, bound)?;
@@ -318,7 +359,7 @@ pub fn side_start<S: Spelling>(
     if says(piece, S::sum_word()) {
         return Ok(None);
     }
-    let start = term_start(names, piece, bound)?;
+    let start = term_start(names, 0, piece, bound)?;
     Ok(Some(start))
 }
 

@@ -102,10 +102,10 @@ impl<'a> Lexer<'a> {
         ensures end { IsSome result ↔ (bytes_left self.old ≢ []) }
     {
         let (first, after) = self.rest.split_first()?;
-        let len = tail_len(*first, after);
+        let (kind, len) = shape(*first, after);
         let (text, rest) = self.rest.split_at(len + 1);
         let token = Token {
-            kind: kind(*first, after),
+            kind,
             text,
             line: self.line,
             column: self.column,
@@ -145,33 +145,22 @@ impl<'a> Lexer<'a> {
     }
 }
 
-// The kind of the token that begins with b, before the rest.
-fn kind(b: u8, rest: &[u8]) -> TokenKind
-    ensures { result ≡ tokens.kind_of b rest.now }
-{
-    if is_letter(b) {
-        TokenKind::Word
-    } else if is_digit(b) {
-        TokenKind::Digits
-    } else if sign_len(b, rest) == 0 {
-        TokenKind::Bad
-    } else {
-        TokenKind::Sign
-    }
-}
-
-// How many bytes of the rest belong to the token that begins with b.
+// The kind of the token that begins with b, before the rest, and how many bytes of the rest belong to it.
 #[tactic(auto, unfolding(crate::specs::Tokens::tail_len))]
-fn tail_len(b: u8, rest: &[u8]) -> usize
-    ensures value { result ≡ tokens.tail_len b rest.now }
-    ensures within { result ≤ length rest.now }
+fn shape(b: u8, rest: &[u8]) -> (TokenKind, usize)
+    ensures kind { result.0 ≡ tokens.kind_of b rest.now }
+    ensures tail { result.1 ≡ tokens.tail_len b rest.now }
+    ensures within { result.1 ≤ length rest.now }
 {
     if is_letter(b) {
-        word_len(rest)
-    } else if is_digit(b) {
-        digits_len(rest)
-    } else {
-        sign_len(b, rest).saturating_sub(1)
+        return (TokenKind::Word, word_len(rest));
+    }
+    if is_digit(b) {
+        return (TokenKind::Digits, digits_len(rest));
+    }
+    match sign_len(b, rest) {
+        0 => (TokenKind::Bad, 0),
+        len => (TokenKind::Sign, len - 1),
     }
 }
 
@@ -205,11 +194,11 @@ fn sign_len(b: u8, rest: &[u8]) -> usize
 fn is_long_sign(b: u8, c: u8) -> bool
     ensures { result ≡ tokens.is_long_sign b c }
 {
-    match c {
-        b'=' => b == b'<' || b == b'>' || b == b'=' || b == b'!' || b == b':',
-        b'>' => b == b'=',
-        b'&' => b == b'&',
-        b'|' => b == b'|',
+    match b {
+        b'<' | b'>' | b'!' | b':' => c == b'=',
+        b'=' => c == b'=' || c == b'>',
+        b'&' => c == b'&',
+        b'|' => c == b'|',
         _ => false,
     }
 }

@@ -7,11 +7,11 @@ use Rattle.trop_spelling.proofs.terms.terms.Goals as goal
 
 pub terms-init : goal.terms-init
 unfolding terms_at
-terms-init g c = record { reading = rw c.new-terms.ensures.items refl; source = refl }
+terms-init g c = record { reading = rw c.in_ok-terms.ensures.items refl; source = refl }
 
 pub returns-in_err-more-clause-gives : goal.returns-in_err-more-clause-gives
 returns-in_err-more-clause-gives g c =
-    let p = err_from_is_err_and c.from_residual.result c.from_residual.ensures.1 in
+    let p = err_from_is_err_and c.from_residual-in_err-more.result c.from_residual-in_err-more.ensures.1 in
     rw (p.1, p.2) (separated_failed (terms_parts g.S.Scalar.ring g.S.Scalar.numbering c.args.bound c.args.names.now
     g.S.Spelling.KIND) _ _ _ _ c.in_err-more.ensures.gives c.terms.invariant.reading)
 
