@@ -67,40 +67,31 @@ module _ (s : State) where
       go true h = h
       go false h = h
 
-  -- what a look sees, the condition can be
-  and_can : (a b : Cond) (o : Option Look) (right : List ℤ → Option Look) (k : Look)
-      → ((l : Look) → o ≡ Some l → CanBe a s l.truth)
-      → ((cs : List ℤ) (l : Look) → right cs ≡ Some l → CanBe b s l.truth) → look_second true o right ≡ Some k
-      → CanBe (And a b) s k.truth
-  and_can a b None right k h g e = cc
-  and_can a b (Some l) right k h g e = go l.truth (h l refl) e
+  -- What a look sees, a condition J of two parts A and B can be: the first part stops the look with one truth value,
+  -- and with the other one the second part decides.
+  both_can : (on : Bool) (A B J : Bool → Type 0) → (A (not on) → J (not on)) → ((t : Bool) → A on → B t → J t)
+      → (o : Option Look) (right : List ℤ → Option Look) (k : Look) → ((l : Look) → o ≡ Some l → A l.truth)
+      → ((cs : List ℤ) (l : Look) → right cs ≡ Some l → B l.truth) → look_second on o right ≡ Some k → J k.truth
+  both_can on A B J stops goes None right k h g e = cc
+  both_can on A B J stops goes (Some l) right k h g e = go on l.truth stops goes (h l refl) e
     where
-      both : (t : Bool) → CanBe a s true → CanBe b s t → CanBe (And a b) s t
-      both true x y = (x, y)
-      both false x y = inr y
+      seen : (t : Bool) → Some (record { truth = t; left = l.left }) ≡ Some k → t ≡ k.truth
+      seen t e = ap (λ (x : Option Look). elim x [ None ↦ false | Some y ↦ y.truth ]) e
 
-      go : (t : Bool) → CanBe a s t → look_on true l.left right t ≡ Some k → CanBe (And a b) s k.truth
-      go true c e = both k.truth c (g l.left k e)
-      go false c e =
-          let t : false ≡ k.truth = ap (λ (x : Option Look). elim x [ None ↦ false | Some y ↦ y.truth ]) e in
-          subst (λ (x : Bool). CanBe (And a b) s x) t (inl c)
+      go : (on t : Bool) → (A (not on) → J (not on)) → ((t : Bool) → A on → B t → J t) → A t
+          → look_on on l.left right t ≡ Some k → J k.truth
+      go true true stops goes c e = goes k.truth c (g l.left k e)
+      go false false stops goes c e = goes k.truth c (g l.left k e)
+      go true false stops goes c e = subst J (seen false e) (stops c)
+      go false true stops goes c e = subst J (seen true e) (stops c)
 
-  or_can : (a b : Cond) (o : Option Look) (right : List ℤ → Option Look) (k : Look)
-      → ((l : Look) → o ≡ Some l → CanBe a s l.truth)
-      → ((cs : List ℤ) (l : Look) → right cs ≡ Some l → CanBe b s l.truth) → look_second false o right ≡ Some k
-      → CanBe (Or a b) s k.truth
-  or_can a b None right k h g e = cc
-  or_can a b (Some l) right k h g e = go l.truth (h l refl) e
-    where
-      both : (t : Bool) → CanBe a s false → CanBe b s t → CanBe (Or a b) s t
-      both true x y = inr y
-      both false x y = (x, y)
+  and_can : (a b : Cond) (t : Bool) → CanBe a s true → CanBe b s t → CanBe (And a b) s t
+  and_can a b true x y = (x, y)
+  and_can a b false x y = inr y
 
-      go : (t : Bool) → CanBe a s t → look_on false l.left right t ≡ Some k → CanBe (Or a b) s k.truth
-      go false c e = both k.truth c (g l.left k e)
-      go true c e =
-          let t : true ≡ k.truth = ap (λ (x : Option Look). elim x [ None ↦ false | Some y ↦ y.truth ]) e in
-          subst (λ (x : Bool). CanBe (Or a b) s x) t (inl c)
+  or_can : (a b : Cond) (t : Bool) → CanBe a s false → CanBe b s t → CanBe (Or a b) s t
+  or_can a b true x y = inr y
+  or_can a b false x y = (x, y)
 
   pub look_can : (c : Cond) (cs : List ℤ) (l : Look) → look c s cs ≡ Some l → CanBe c s l.truth
   look_can Any cs l e = tt
@@ -108,8 +99,12 @@ module _ (s : State) where
       let t : compares c (value p s) (value q s) ≡ l.truth = ap (λ (x : Option Look). elim x [ None ↦ false | Some y ↦ y.truth ]) e in
       subst (λ (x : Bool). CanBe (Atom p c q) s x) t (atom_can (compares c (value p s) (value q s)) p q c (compares_says c (value p s) (value q s)))
   look_can (Not a) cs l e = not_can a (look a s cs) l (λ k d. look_can a cs k d) e
-  look_can (And a b) cs l e = and_can a b (look a s cs) (look b s) l (λ k d. look_can a cs k d) (λ ds k d. look_can b ds k d) e
-  look_can (Or a b) cs l e = or_can a b (look a s cs) (look b s) l (λ k d. look_can a cs k d) (λ ds k d. look_can b ds k d) e
+  look_can (And a b) cs l e =
+      both_can true (CanBe a s) (CanBe b s) (CanBe (And a b) s) (λ c. inl c) (and_can a b) (look a s cs) (look b s) l
+      (λ k d. look_can a cs k d) (λ ds k d. look_can b ds k d) e
+  look_can (Or a b) cs l e =
+      both_can false (CanBe a s) (CanBe b s) (CanBe (Or a b) s) (λ c. inl c) (or_can a b) (look a s cs) (look b s) l
+      (λ k d. look_can a cs k d) (λ ds k d. look_can b ds k d) e
 
 -- what a branch that is picked says of the look
 record Branches (o : Option Look) (c d x : Config) : Type 0 where

@@ -14,17 +14,25 @@ use Rattle.prog_theory.specs.Heads.{own_heads, heads_of}
 
 -- ---- points
 
-comparison_inner : (c : Cmp) (p q : Term) → inner (comparison c p q) + 1 ≤ 2
-comparison_inner Le p q = omega arith
-comparison_inner Lt p q = omega arith
-comparison_inner Ge p q = omega arith
-comparison_inner Gt p q = omega arith
-comparison_inner Eq p q = omega arith
-comparison_inner Ne p q = omega arith
+-- how many edges a test has at most
+abbrev most : Test → ℕ
+most Choice = 2
+most (Guard l r) = 2
+most (Negated a) = most a
+most (Both a b) = most a + most b
+most (Either a b) = most a + most b
+
+comparison_few : (c : Cmp) (p q : Term) → (inner (comparison c p q) + 1 ≤ 2) × (most (comparison c p q) ≤ 4)
+comparison_few Le p q = (omega arith, omega arith)
+comparison_few Lt p q = (omega arith, omega arith)
+comparison_few Ge p q = (omega arith, omega arith)
+comparison_few Gt p q = (omega arith, omega arith)
+comparison_few Eq p q = (omega arith, omega arith)
+comparison_few Ne p q = (omega arith, omega arith)
 
 pub inner_few : (c : Cond) → inner (test c) + 1 ≤ 2 * cond_atoms c
 inner_few Any = omega arith
-inner_few (Atom p c q) = comparison_inner c p q
+inner_few (Atom p c q) = (comparison_few c p q).0
 inner_few (Not a) = inner_few a
 inner_few (And a b) = omega (arith, inner_few a, inner_few b)
 inner_few (Or a b) = omega (arith, inner_few a, inner_few b)
@@ -49,14 +57,6 @@ to_few : (f : ℕ) (op : Op) (o : Option ℕ) → length (edge_to f op o) ≤ 1
 to_few f op None = omega arith
 to_few f op (Some t) = omega arith
 
--- how many edges a test has at most
-abbrev most : Test → ℕ
-most Choice = 2
-most (Guard l r) = 2
-most (Negated a) = most a
-most (Both a b) = most a + most b
-most (Either a b) = most a + most b
-
 test_few : (t : Test) (f m : ℕ) (hit miss : Option ℕ) → length (test_edges t f m hit miss) ≤ most t
 test_few Choice f m hit miss =
     let l = length-append (edge_to f Skips hit) (edge_to f Skips miss) in
@@ -76,17 +76,9 @@ test_few (Either a b) f m hit miss =
     let l = length-append (test_edges a f m hit (Some (m + inner a))) (test_edges b (m + inner a) (m + inner a + 1) hit miss) in
     omega (arith, x, y)
 
-comparison_most : (c : Cmp) (p q : Term) → most (comparison c p q) ≤ 4
-comparison_most Le p q = omega arith
-comparison_most Lt p q = omega arith
-comparison_most Ge p q = omega arith
-comparison_most Gt p q = omega arith
-comparison_most Eq p q = omega arith
-comparison_most Ne p q = omega arith
-
 cond_most : (c : Cond) → most (test c) ≤ 4 * cond_atoms c
 cond_most Any = omega arith
-cond_most (Atom p c q) = comparison_most c p q
+cond_most (Atom p c q) = (comparison_few c p q).1
 cond_most (Not a) = cond_most a
 cond_most (And a b) = omega (arith, cond_most a, cond_most b)
 cond_most (Or a b) = omega (arith, cond_most a, cond_most b)
