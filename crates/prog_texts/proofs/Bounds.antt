@@ -28,7 +28,7 @@ use Rattle.prog_texts.specs.Conditions.{Start, Bang, Bracket, Ask, Compare, open
 use Rattle.prog_texts.specs.Claims.{SideStart, Single, Listed, side_start, AreTerms, IsSideRest, IsSide as IsSideText, IsClaim as IsClaimText}
 use Rattle.prog_texts.specs.Statements.{Verb, Havocs, Assumes, Asserts, Asks, Loops, Skips, Sets, verb, IsBlock, IsStatementRest, AreStatements}
 use Rattle.prog_texts.specs.Suits.{SuitsSide, SuitsStmt, SuitsBlock}
-use Rattle.prog_texts.proofs.NoDeeper.{many_keeps, chain_keeps, braces_keep, else_keeps, and_then_keeps}
+use Rattle.prog_texts.proofs.NoDeeper.{many_keeps, chain_keeps, braces_keep, else_keeps, and_then_keeps, claim_keeps}
 use Rattle.prog_texts.proofs.Judged.{begin_is, first_is, verb_is}
 
 -- ---- what was judged
@@ -116,13 +116,6 @@ module _ (L : Limits) (rule : AssertRule) (names : List (List ℕ)) (V : ℕ →
   side_holds : (us : List Counted) (x : Side) → IsSideText L rule names us x → EachSide x
   side_holds us x h = side_rest_holds h.first.token h.value h.back x h.first.is h.second
 
-  abbrev EachOf : Claim → Type 0
-  EachOf c = EachSide c.left × EachSide c.right
-
-  claim_holds : (us : List Counted) (c : Claim) → IsClaimText L rule names us c → EachOf c
-  claim_holds us c h = let m = h.second.second in subst EachOf (sym m.second.is)
-      (side_holds h.front h.value h.first, side_holds m.front m.value m.first)
-
   abbrev Good : Block → Type 0
   Good b = EachBlock V T b
 
@@ -140,7 +133,8 @@ module _ (L : Limits) (rule : AssertRule) (names : List (List ℕ)) (V : ℕ →
         (variables h.first.token h.value (named_known (is_variable h.first.token)
         (known names h.first.token) h.value h.first.is))
     stmt_holds t Assumes us x e h = subst GoodStmt (sym h.second.second.is) (condition_at_holds h.front h.value h.first)
-    stmt_holds t Asserts us x e h = subst GoodStmt (sym h.second.second.is) (claim_holds h.front h.value h.first)
+    stmt_holds t Asserts us x e h = subst GoodStmt (sym h.second.second.is)
+        (claim_keeps L rule names EachSide side_holds h.front h.value h.first)
     stmt_holds t Asks us x e h =
         let m = h.second in
         subst GoodStmt (sym m.second.second.is) (
@@ -157,7 +151,8 @@ module _ (L : Limits) (rule : AssertRule) (names : List (List ℕ)) (V : ℕ →
     stmt_holds t (Sets i) us x e h = let m = h.second in
         subst GoodStmt (sym m.second.second.is) (
           variables t i
-              (verb_is (says (codes "havoc") t) (says (codes "assume") t) (says (codes "assert") t) (says (codes "if") t)
+              (verb_is (says (codes "havoc") t) (says (codes "assume") t) (says (codes "assert") t)
+              (says (codes "if") t)
               (says (codes "while") t) (says (codes "skip") t) (is_variable t) (is_one_too_many L t) (known names t)
               (Sets i) e).told,
           operand_holds m.front m.value m.first,
@@ -166,10 +161,12 @@ module _ (L : Limits) (rule : AssertRule) (names : List (List ℕ)) (V : ℕ →
   pub block_holds : (d : ℕ) (us : List Counted) (b : Block) → AreStatements L rule names d us b → Good b
   unfolding AreStatements
   block_holds zero us b h = many_judged Good (λ xs t v ws ys q j k. subst Good (sym k.second.is)
-      (and_then_keeps Good GoodStmt tt (λ x xs h k. (h, k)) (λ x xs h. h) xs k.value q (stmt_holds 0 false Nowhere (λ us b h. absurd h) t v k.front k.value j k.first)))
+      (and_then_keeps Good GoodStmt tt (λ x xs h k. (h, k)) (λ x xs h. h) xs k.value q
+      (stmt_holds 0 false Nowhere (λ us b h. absurd h) t v k.front k.value j k.first)))
       tree.Empty us b tt h
   block_holds (suc d) us b h = many_judged Good (λ xs t v ws ys q j k. subst Good (sym k.second.is)
-      (and_then_keeps Good GoodStmt tt (λ x xs h k. (h, k)) (λ x xs h. h) xs k.value q (stmt_holds (suc d) true (AreStatements L rule names d)
+      (and_then_keeps Good GoodStmt tt (λ x xs h k. (h, k)) (λ x xs h. h) xs k.value q
+      (stmt_holds (suc d) true (AreStatements L rule names d)
       (block_holds d) t v k.front k.value j k.first))) tree.Empty us b tt h
 
 -- ---- coordinates and numbers

@@ -1,16 +1,17 @@
 -- A printed program is nested no deeper than any text of it.
--- Index: many_keeps, chain_keeps, braces_keep, else_keeps, and_then_keeps, condition_nests, block_nests.
+-- Index: many_keeps, chain_keeps, braces_keep, else_keeps, and_then_keeps, claim_keeps, condition_nests, block_nests.
 use Rattle.std.proofs.Common.{◌≤◌, ℕ, zero, suc, Bool, true, false, Option, List, codes, Result, sym, subst, arith}
 use Rattle.trop_text.specs.declared.fault.FaultKind.{FaultKind}
 use Rattle.shape_grammar.specs.Texts.{Maybe, LeftOut, Written, Many, NoMore, OneMore}
 use Rattle.prog_theory.specs.Conditions.{Cond, Any, Atom, Not, And, Or}
-use Rattle.prog_theory.specs.Statements.{Stmt, Set, Havoc, Assume, Assert, If, While, Skip, Block}
+use Rattle.prog_theory.specs.Statements.{Side, Claim, Stmt, Set, Havoc, Assume, Assert, If, While, Skip, Block}
 use Rattle.prog_theory.specs.Statements as tree
 use Rattle.prog_theory.specs.Limits.{Limits}
 use Rattle.prog_texts.specs.AssertRule.{AssertRule}
 use Rattle.prog_texts.specs.Words.{Counted, skipped}
 use Rattle.prog_texts.specs.Judges.{goes_on}
 use Rattle.prog_texts.specs.Conditions.{Start, Bang, Bracket, Ask, Compare, IsChain, IsConditionOf, IsNegationRest, IsNegation, IsCondition, Nowhere}
+use Rattle.prog_texts.specs.Claims.{IsSide, IsClaim}
 use Rattle.prog_theory.specs.Blocks.{and_then}
 use Rattle.prog_texts.specs.Statements.{Verb, Havocs, Assumes, Asserts, Asks, Loops, Skips, Sets, IsBlock, IsStatementRest, AreStatements}
 use Rattle.prog_theory.specs.Nesting.{Loose, Tight, Single}
@@ -60,6 +61,14 @@ pub and_then_keeps : (P : Block → Type 0) (Q : Stmt → Type 0) → P tree.Emp
 and_then_keeps P Q none join parts tree.Empty x h k = join x tree.Empty k none
 and_then_keeps P Q none join parts (tree.Then y ys) x h k =
     let p = parts y ys h in join y (and_then ys x) p.0 (and_then_keeps P Q none join parts ys x p.1 k)
+
+-- what holds of each side holds of both sides of a claim
+pub claim_keeps : (L : Limits) (rule : AssertRule) (names : List (List ℕ)) (P : Side → Type 0) →
+    ((us : List Counted) (x : Side) → IsSide L rule names us x → P x) → (us : List Counted) (c : Claim) →
+    IsClaim L rule names us c → P c.left × P c.right
+claim_keeps L rule names P part us c h = let m = h.second.second in
+    subst (λ (z : Claim). P z.left × P z.right) (sym m.second.is)
+    (part h.front h.value h.first, part m.front m.value m.first)
 
 condition_of_nests : (d : ℕ) {R : List Counted → Cond → Type 0} →
     ((us : List Counted) (c : Cond) → R us c → cond_nesting Single c ≤ d) → (us : List Counted) (c : Cond) →

@@ -1,6 +1,7 @@
 -- Printed claims and statements are spelled as they were, inside as many signs as they are printed with.
 -- Index: side_spelled, claim_spelled, block_spelled.
-use Rattle.std.proofs.Common.{◌≡◌, ◌≤◌, ℕ, zero, suc, Bool, true, false, cond, Some, List, [], ◌∷◌, ◌++◌, codes, Result, Ok, Err, refl, sym, ap, subst, ◌∙◌, append_assoc, arith}
+use Rattle.std.proofs.Common.{◌≡◌, ◌≤◌, ℕ, zero, suc, Bool, true, false, cond, Option, Some, None, List, [], ◌∷◌, ◌++◌, codes, Result, Ok, Err, refl, sym, ap, subst, ◌∙◌, append_assoc, arith}
+use Rattle.std.specs.Str.{bytes_eq}
 use Rattle.std.proofs.lemmas.List.{append-nil}
 use Rattle.trop_text.specs.Name.{is_name}
 use Rattle.trop_text.specs.declared.fault.FaultKind.{FaultKind}
@@ -196,47 +197,21 @@ module _ (L : Limits) (rule : AssertRule) (names : List (List ℕ)) where
   counted : (t : Counted) (v : Result Verb FaultKind) → is_one_too_many L t ≡ false → one_more L t v ≡ Some v
   counted t v e = ap (λ z. Some (cond z (Err TooManyStatements) v)) e
 
-  is_havoc : (t : Counted) → says (codes "havoc") t ≡ true → is_one_too_many L t ≡ false →
-      verb L names t ≡ Some (Ok Havocs)
-  is_havoc t e k = takes (says (codes "havoc") t) _ _ e ∙ counted t (Ok Havocs) k
+  -- what a text is as the first token of a statement, where it is no name
+  abbrev verb_of_text : Counted → List ℕ → Option (Result Verb FaultKind)
+  verb_of_text t w =
+      cond (bytes_eq w (codes "havoc")) (one_more L t (Ok Havocs))
+      (cond (bytes_eq w (codes "assume")) (one_more L t (Ok Assumes))
+      (cond (bytes_eq w (codes "assert")) (one_more L t (Ok Asserts))
+      (cond (bytes_eq w (codes "if")) (one_more L t (Ok Asks))
+      (cond (bytes_eq w (codes "while")) (one_more L t (Ok Loops))
+      (cond (bytes_eq w (codes "skip")) (one_more L t (Ok Skips))
+      (cond (is_variable t) (one_more L t (passed Sets (known names t))) None))))))
 
-  is_assume : (t : Counted) → says (codes "assume") t ≡ true → is_one_too_many L t ≡ false →
-      verb L names t ≡ Some (Ok Assumes)
-  is_assume t e k = skips (says (codes "havoc") t) _ _ (other_word (codes "assume") (codes "havoc") t e refl)
-      ∙ takes (says (codes "assume") t) _ _ e ∙ counted t (Ok Assumes) k
-
-  is_assert : (t : Counted) → says (codes "assert") t ≡ true → is_one_too_many L t ≡ false →
-      verb L names t ≡ Some (Ok Asserts)
-  is_assert t e k =
-      skips (says (codes "havoc") t) _ _ (other_word (codes "assert") (codes "havoc") t e refl)
-      ∙ skips (says (codes "assume") t) _ _ (other_word (codes "assert") (codes "assume") t e refl)
-      ∙ takes (says (codes "assert") t) _ _ e ∙ counted t (Ok Asserts) k
-
-  is_if : (t : Counted) → says (codes "if") t ≡ true → is_one_too_many L t ≡ false → verb L names t ≡ Some (Ok Asks)
-  is_if t e k =
-      skips (says (codes "havoc") t) _ _ (other_word (codes "if") (codes "havoc") t e refl)
-      ∙ skips (says (codes "assume") t) _ _ (other_word (codes "if") (codes "assume") t e refl)
-      ∙ skips (says (codes "assert") t) _ _ (other_word (codes "if") (codes "assert") t e refl)
-      ∙ takes (says (codes "if") t) _ _ e ∙ counted t (Ok Asks) k
-
-  is_while : (t : Counted) → says (codes "while") t ≡ true → is_one_too_many L t ≡ false →
-      verb L names t ≡ Some (Ok Loops)
-  is_while t e k =
-      skips (says (codes "havoc") t) _ _ (other_word (codes "while") (codes "havoc") t e refl)
-      ∙ skips (says (codes "assume") t) _ _ (other_word (codes "while") (codes "assume") t e refl)
-      ∙ skips (says (codes "assert") t) _ _ (other_word (codes "while") (codes "assert") t e refl)
-      ∙ skips (says (codes "if") t) _ _ (other_word (codes "while") (codes "if") t e refl)
-      ∙ takes (says (codes "while") t) _ _ e ∙ counted t (Ok Loops) k
-
-  is_skip : (t : Counted) → says (codes "skip") t ≡ true → is_one_too_many L t ≡ false →
-      verb L names t ≡ Some (Ok Skips)
-  is_skip t e k =
-      skips (says (codes "havoc") t) _ _ (other_word (codes "skip") (codes "havoc") t e refl)
-      ∙ skips (says (codes "assume") t) _ _ (other_word (codes "skip") (codes "assume") t e refl)
-      ∙ skips (says (codes "assert") t) _ _ (other_word (codes "skip") (codes "assert") t e refl)
-      ∙ skips (says (codes "if") t) _ _ (other_word (codes "skip") (codes "if") t e refl)
-      ∙ skips (says (codes "while") t) _ _ (other_word (codes "skip") (codes "while") t e refl)
-      ∙ takes (says (codes "skip") t) _ _ e ∙ counted t (Ok Skips) k
+  -- the word of a verb
+  spoken : (word : List ℕ) (v : Verb) (t : Counted) → verb_of_text t word ≡ one_more L t (Ok v) →
+      says word t ≡ true → is_one_too_many L t ≡ false → verb L names t ≡ Some (Ok v)
+  spoken word v t is e k = ap (verb_of_text t) (text_is word t e) ∙ is ∙ counted t (Ok v) k
 
   is_set : (t : Counted) (i : ℕ) → is_variable t ≡ true → known names t ≡ Ok i → is_one_too_many L t ≡ false →
       verb L names t ≡ Some (Ok (Sets i))
@@ -381,19 +356,23 @@ module _ (L : Limits) (rule : AssertRule) (names : List (List ℕ)) where
         (is_set h.0 i h.4.1 h.4.2 h.3.one)
         (said_then L names (codes ":=") (Blank ∷ (term_inks t ++ Says (codes ";") ∷ Feed ∷ [])) h.1 (Set i t) h.5
         (λ vs q. ended_spelled (λ y. Set i y) t (term_inks t) vs q (operand_spelled L names t)))
-    stmt_spelled (Havoc i) n d us s le h = verb_at d (Havoc i) us h.0 h.1 Havocs h.2 (is_havoc h.0 h.4.1 h.3.one)
+    stmt_spelled (Havoc i) n d us s le h = verb_at d (Havoc i) us h.0 h.1 Havocs h.2
+        (spoken (codes "havoc") Havocs h.0 refl h.4.1 h.3.one)
         (ended_spelled Havoc i (Name i ∷ []) h.1 h.5 (havoc_rest i))
-    stmt_spelled (Assume c) n d us s le h = verb_at d (Assume c) us h.0 h.1 Assumes h.2 (is_assume h.0 h.4.1 h.3.one)
+    stmt_spelled (Assume c) n d us s le h = verb_at d (Assume c) us h.0 h.1 Assumes h.2
+        (spoken (codes "assume") Assumes h.0 refl h.4.1 h.3.one)
         (ended_spelled Assume c (cond_inks Loose c) h.1 h.5 (λ vs q. condition_spelled L names c d vs le q))
-    stmt_spelled (Assert c) n d us s le h = verb_at d (Assert c) us h.0 h.1 Asserts h.2 (is_assert h.0 h.4.1 h.3.one)
+    stmt_spelled (Assert c) n d us s le h = verb_at d (Assert c) us h.0 h.1 Asserts h.2
+        (spoken (codes "assert") Asserts h.0 refl h.4.1 h.3.one)
         (ended_spelled Assert c (claim_inks c) h.1 h.5 (λ vs q. claim_spelled c vs s.0 s.1 q))
-    stmt_spelled Skip n d us s le h = verb_at d Skip us h.0 h.1 Skips h.2 (is_skip h.0 h.4.1 h.3.one)
+    stmt_spelled Skip n d us s le h = verb_at d Skip us h.0 h.1 Skips h.2
+        (spoken (codes "skip") Skips h.0 refl h.4.1 h.3.one)
         (said_then L names (codes ";") (Feed ∷ []) h.1 Skip h.5 (λ vs q. the_empty Skip vs q))
     stmt_spelled (If c a b) n zero us s le h = absurd (omega arith)
     stmt_spelled (If c a b) n (suc d) us s le h =
         let le1 : block_nesting a ≤ d = omega arith in
         let le2 : block_nesting b ≤ d = omega arith in
-        verb_at (suc d) (If c a b) us h.0 h.1 Asks h.2 (is_if h.0 h.4.1 h.3.one)
+        verb_at (suc d) (If c a b) us h.0 h.1 Asks h.2 (spoken (codes "if") Asks h.0 refl h.4.1 h.3.one)
         (condition_then c (suc d) (Blank ∷ Says (codes "{") ∷ Feed ∷
         (block_inks (suc n) a ++ (else_inks n b (block_inks (suc n) b) ++ (indent n ++ closing)))) h.1 (If c a b)
         (omega arith) h.5 (λ ws q. if_rest n d c a b ws
@@ -402,7 +381,7 @@ module _ (L : Limits) (rule : AssertRule) (names : List (List ℕ)) where
     stmt_spelled (While c a) n zero us s le h = absurd (omega arith)
     stmt_spelled (While c a) n (suc d) us s le h =
         let le1 : block_nesting a ≤ d = omega arith in
-        verb_at (suc d) (While c a) us h.0 h.1 Loops h.2 (is_while h.0 h.4.1 h.3.one)
+        verb_at (suc d) (While c a) us h.0 h.1 Loops h.2 (spoken (codes "while") Loops h.0 refl h.4.1 h.3.one)
         (condition_then c (suc d) (Blank ∷ Says (codes "{") ∷ Feed ∷ (block_inks (suc n) a ++ (indent n ++ closing)))
         h.1 (While c a) (omega arith) h.5 (λ ws q. brace_then n (suc n) d a (Feed ∷ []) ws (While c a)
         (λ vs q. whole_block a d vs (many_spelled a (suc n) d tree.Empty vs s le1 q)) q

@@ -247,11 +247,23 @@ module _ (L : Limits) (rule : AssertRule) (names : List (List ℕ)) where
       plain b d us t h r = tally_more L b (behind t) d us 1 0 h r
 
       abbrev IsIt : Counted → Verb → Type 0
-      IsIt t v = IsVerb (says (codes "havoc") t) (says (codes "assume") t) (says (codes "assert") t) (says (codes "if") t)
+      IsIt t v = IsVerb (says (codes "havoc") t) (says (codes "assume") t) (says (codes "assert") t)
+          (says (codes "if") t)
           (says (codes "while") t) (says (codes "skip") t) (is_variable t) (is_one_too_many L t) (known names t) v
 
       abbrev Count : Before → Before → Stmt → Type 0
       Count b d z = IsTally L b d (count z) (stmt_atoms z)
+
+      -- what was counted of a statement is what there is to count of it
+      statement_is : (b d : Before) (z x : Stmt) → x ≡ z → Count b d z → IsFresh d → IsStatement b d x
+      statement_is b d z x e tally fresh = record { tally = subst (Count b d) (sym e) tally; fresh = fresh }
+
+      -- a condition and a block were counted, and a statement may follow
+      record IsBranch (b d : Before) (c : Cond) (x : Block) (back : List Counted) : Type 0 where
+        end : Before
+        tally : IsTally L b end (1 + counts x) (cond_atoms c + block_atoms x)
+        fresh : IsFresh end
+        run : IsRun end back d
 
       rest_statement : (n : ℕ) (t : Counted) (d : Before) (v : Verb) (us : List Counted) (x : Stmt) → IsFresh t.before →
           verb L names t ≡ Some (Ok v) → IsRun (behind t) us d → IsStatementRest L rule names n room Inner v us x →
@@ -275,85 +287,74 @@ module _ (L : Limits) (rule : AssertRule) (names : List (List ℕ)) where
               (says (codes "assert") t) (says (codes "if") t) (says (codes "while") t) (says (codes "skip") t)
               (is_variable t) (is_fresh t.before.last) k.some fresh) k.allowed
 
+          -- a condition and a block behind it
+          branch : {S : Cond → Block → List Counted → Stmt → Type 0} (word : List ℕ) (us : List Counted) (x : Stmt)
+              (h : Then (IsCondition L names n) (λ c. Then (IsBlock room Inner) (S c)) us x) → says word t ≡ true →
+              bytes_eq [] word ≡ false → is_asking word ≡ true → bytes_eq word (codes "(") ≡ false →
+              IsTally L t.before (behind t) 1 0 → IsRun (behind t) us d →
+              IsBranch t.before d h.value h.second.value h.second.back
+          branch word us x h said some asks other first r =
+              let p = parted L names (behind t) d us h.front h.back h.whole r in
+              let c = with_condition word h.front h.value p.0 said some asks other first p.1 h.first in
+              let m = h.second in
+              let q = parted L names p.0 d h.back m.front m.back m.whole p.2 in
+              let a = block_tally p.0 q.0 m.front m.value q.1 m.first in
+              record {
+                end = q.0;
+                tally = tally_then L t.before p.0 q.0 1 (cond_atoms h.value) (counts m.value)
+                    (block_atoms m.value) c a.tally;
+                fresh = a.fresh;
+                run = q.2;
+              }
+
           at : (v : Verb) (us : List Counted) (x : Stmt) → IsRun (behind t) us d →
               IsStatementRest L rule names n room Inner v us x → IsIt t v → IsStatement t.before d x
           at Havocs us x r h k =
               let p = parted L names (behind t) d us h.front h.back h.whole r in
-              record {
-                tally = subst (Count t.before d) (sym h.second.second.is)
-                    (plain t.before d us t (first_one Havocs k) r);
-                fresh =
-                    last_said (codes ";") (tree.Havoc h.value) x p.0 d h.back refl refl p.2 h.second;
-              }
+              statement_is t.before d (tree.Havoc h.value) x h.second.second.is
+              (plain t.before d us t (first_one Havocs k) r)
+              (last_said (codes ";") (tree.Havoc h.value) x p.0 d h.back refl refl p.2 h.second)
+          at Asserts us x r h k =
+              let p = parted L names (behind t) d us h.front h.back h.whole r in
+              statement_is t.before d (tree.Assert h.value) x h.second.second.is
+              (plain t.before d us t (first_one Asserts k) r)
+              (last_said (codes ";") (tree.Assert h.value) x p.0 d h.back refl refl p.2 h.second)
+          at Skips us x r h k = statement_is t.before d tree.Skip x h.second.is
+              (plain t.before d us t (first_one Skips k) r)
+              (last_said (codes ";") tree.Skip x (behind t) d us refl refl r h)
           at Assumes us x r h k =
               let p = parted L names (behind t) d us h.front h.back h.whole r in
               let c = with_condition (codes "assume") h.front h.value p.0 k.told refl refl refl
               (first_one Assumes k) p.1 h.first in
-              record {
-                tally = subst (Count t.before d) (sym h.second.second.is)
-                    (tally_more L t.before p.0 d h.back 1 (cond_atoms h.value) c p.2);
-                fresh =
-                    last_said (codes ";") (tree.Assume h.value) x p.0 d h.back refl refl p.2 h.second;
-              }
-          at Asserts us x r h k =
-              let p = parted L names (behind t) d us h.front h.back h.whole r in
-              record {
-                tally = subst (Count t.before d) (sym h.second.second.is)
-                    (plain t.before d us t (first_one Asserts k) r);
-                fresh =
-                    last_said (codes ";") (tree.Assert h.value) x p.0 d h.back refl refl p.2 h.second;
-              }
+              statement_is t.before d (tree.Assume h.value) x h.second.second.is
+              (tally_more L t.before p.0 d h.back 1 (cond_atoms h.value) c p.2)
+              (last_said (codes ";") (tree.Assume h.value) x p.0 d h.back refl refl p.2 h.second)
           at Asks us x r h k =
-              let p = parted L names (behind t) d us h.front h.back h.whole r in
-              let c = with_condition (codes "if") h.front h.value p.0 k.told refl refl refl
-              (first_one Asks k) p.1 h.first in
+              let a = branch (codes "if") us x h k.told refl refl refl (first_one Asks k) r in
               let m = h.second in
-              let q = parted L names p.0 d h.back m.front m.back m.whole p.2 in
-              let a = block_tally p.0 q.0 m.front m.value q.1 m.first in
               let n = m.second in
-              let s = parted L names q.0 d m.back n.front n.back n.whole q.2 in
-              let b = else_tally q.0 s.0 n.front n.value a.fresh s.1 n.first in
-              let one = tally_then L t.before p.0 q.0 1 (cond_atoms h.value) (counts m.value)
-              (block_atoms m.value) c a.tally in
-              let two = tally_then L t.before q.0 s.0 (1 + counts m.value) (cond_atoms h.value + block_atoms m.value)
-              (counts n.value) (block_atoms n.value) one b.tally in
-              record {
-                tally = subst (Count t.before d) (sym n.second.is)
-                    (tally_more L t.before s.0 d n.back (1 + counts m.value + counts n.value)
-                    (cond_atoms h.value + block_atoms m.value + block_atoms n.value) two s.2);
-                fresh = subst (λ (z : Before). IsFresh z) (sym (ended s.0 d n.back n.second.none s.2)) b.fresh;
-              }
+              let s = parted L names a.end d m.back n.front n.back n.whole a.run in
+              let b = else_tally a.end s.0 n.front n.value a.fresh s.1 n.first in
+              let all = tally_then L t.before a.end s.0 (1 + counts m.value) (cond_atoms h.value + block_atoms m.value)
+              (counts n.value) (block_atoms n.value) a.tally b.tally in
+              statement_is t.before d (tree.If h.value m.value n.value) x n.second.is
+              (tally_more L t.before s.0 d n.back (1 + counts m.value + counts n.value)
+              (cond_atoms h.value + block_atoms m.value + block_atoms n.value) all s.2)
+              (subst (λ (z : Before). IsFresh z) (sym (ended s.0 d n.back n.second.none s.2)) b.fresh)
           at Loops us x r h k =
-              let p = parted L names (behind t) d us h.front h.back h.whole r in
-              let c = with_condition (codes "while") h.front h.value p.0 k.told refl refl refl
-              (first_one Loops k) p.1 h.first in
+              let a = branch (codes "while") us x h k.told refl refl refl (first_one Loops k) r in
               let m = h.second in
-              let q = parted L names p.0 d h.back m.front m.back m.whole p.2 in
-              let a = block_tally p.0 q.0 m.front m.value q.1 m.first in
-              let one = tally_then L t.before p.0 q.0 1 (cond_atoms h.value) (counts m.value)
-              (block_atoms m.value) c a.tally in
-              record {
-                tally = subst (Count t.before d) (sym m.second.is)
-                    (tally_more L t.before q.0 d m.back (1 + counts m.value)
-                    (cond_atoms h.value + block_atoms m.value) one q.2);
-                fresh = subst (λ (z : Before). IsFresh z) (sym (ended q.0 d m.back m.second.none q.2)) a.fresh;
-              }
-          at Skips us x r h k = record {
-            tally = subst (Count t.before d) (sym h.second.is)
-                (plain t.before d us t (first_one Skips k) r);
-            fresh =
-                last_said (codes ";") tree.Skip x (behind t) d us refl refl r h;
-          }
+              statement_is t.before d (tree.While h.value m.value) x m.second.is
+              (tally_more L t.before a.end d m.back (1 + counts m.value) (cond_atoms h.value + block_atoms m.value)
+              a.tally a.run)
+              (subst (λ (z : Before). IsFresh z) (sym (ended a.end d m.back m.second.none a.run)) a.fresh)
           at (Sets i) us x r h k =
               let p = parted L names (behind t) d us h.front h.back h.whole r in
               let m = h.second in
               let q = parted L names p.0 d h.back m.front m.back m.whole p.2 in
-              record {
-                tally = subst (Count t.before d) (sym m.second.second.is)
-                    (plain t.before d us t (first_one (Sets i) k) r);
-                fresh =
-                    last_said (codes ";") (tree.Set i m.value) x q.0 d m.back refl refl q.2 m.second;
-              }
+              statement_is t.before d (tree.Set i m.value) x m.second.second.is
+              (plain t.before d us t (first_one (Sets i) k) r)
+              (last_said (codes ";") (tree.Set i m.value) x q.0 d m.back refl refl q.2 m.second)
 
       abbrev Step : ℕ → Block → Verb → List Counted → Block → Type 0
       Step n xs v = Then (IsStatementRest L rule names n room Inner v) (λ x. Empty (and_then xs x))
