@@ -105,6 +105,15 @@ module _ {V : Type 0} {R : Semiring V} {N : Numbering V} {reversed : Bool} (laws
   downward : reversed ≡ true → (y z : ℤ) → Le R (N.of y) (N.of z) → z ≤ℤ y
   downward e y z h = (order_of_numbers laws numbers vars z y).1 (subst (λ b. Ordered R b (N.of z) (N.of y)) (sym e) h)
 
+  -- a side with terms has the sum of all, where that is the value that its word asks for
+  valued : (w : SideWord) (ts : List Term) → 0 < length ts → All (FitsTerm vars) ts →
+      ((us : List Term) (z : ℤ) → IsSum us z → IsValueOf w s us z) → (z : ℤ) × HasValue w ts z
+  valued w ts i f is_value =
+      let o = first_term ts i in
+      let r = some_sum o.0 o.1 (subst (All (FitsTerm vars)) o.2 f) in
+      subst (λ ts. (z : ℤ) × HasValue w ts z) (sym o.2)
+      (r.0, record { sum = r.1.sum; is_value = is_value (o.0 ∷ o.1) r.0 r.1 })
+
   pub side_value : (w : SideWord) (ts : List Term) → SuitsWord reversed w → IsSide w ts → All (FitsTerm vars) ts
       → (z : ℤ) × HasValue w ts z
   side_value One ts b i f =
@@ -117,33 +126,15 @@ module _ {V : Type 0} {R : Semiring V} {N : Numbering V} {reversed : Bool} (laws
           is_value = (o.0, refl, refl);
         },
       )) f
-  side_value Greatest ts b i f =
-      let o = first_term ts i in
-      let r = some_sum o.0 o.1 (subst (All (FitsTerm vars)) o.2 f) in
-      subst (λ ts. (z : ℤ) × HasValue Greatest ts z) (sym o.2) (
-        r.0,
-        record {
-          sum = r.1.sum;
-          is_value = record {
-            term = r.1.term;
-            listed = r.1.listed;
-            reaches = r.1.reaches;
-            above = λ u c. upward b (value u s) r.0 (r.1.most u c);
-          };
-        },
-      )
-  side_value Least ts b i f =
-      let o = first_term ts i in
-      let r = some_sum o.0 o.1 (subst (All (FitsTerm vars)) o.2 f) in
-      subst (λ ts. (z : ℤ) × HasValue Least ts z) (sym o.2) (
-        r.0,
-        record {
-          sum = r.1.sum;
-          is_value = record {
-            term = r.1.term;
-            listed = r.1.listed;
-            reaches = r.1.reaches;
-            below = λ u c. downward b (value u s) r.0 (r.1.most u c);
-          };
-        },
-      )
+  side_value Greatest ts b i f = valued Greatest ts i f (λ us z r. record {
+    term = r.term;
+    listed = r.listed;
+    reaches = r.reaches;
+    above = λ u c. upward b (value u s) z (r.most u c);
+  })
+  side_value Least ts b i f = valued Least ts i f (λ us z r. record {
+    term = r.term;
+    listed = r.listed;
+    reaches = r.reaches;
+    below = λ u c. downward b (value u s) z (r.most u c);
+  })

@@ -177,6 +177,25 @@ module _ (L : Limits) (small : L.number < 2 ^ 64) (names : List (List ℕ)) wher
       ∙ ap (λ (z : List Counted). s.gap ++ at b t ∷ z) k.whole
       ∙ sym (append_assoc s.gap (at b t ∷ k.front) (counted (A (after b t.text) is) (pieces_from more k.next)))
 
+  -- the inks behind one that is a token, with it
+  inked_behind : (i : Ink) (w : List ℕ) (is : List Ink) (b : Before) (t : Tok) (ts us more : List Tok) (line : ℕ) →
+      ts ≡ t ∷ us → t.text ≡ w → A (after b w) is ≡ A b (i ∷ is) → Few (A (after b w) is) →
+      ((front rest : List Counted) → past skipped front ≡ at b t ∷ rest → IsWithin L (at b t) →
+      AreInks L names is rest → AreInks L names (i ∷ is) front) → IsInked is (after b w) us more t.line →
+      IsInked (i ∷ is) b ts more line
+  inked_behind i w is b t ts us more line e same end few joins k0 =
+      let few0 = subst (λ (z : List ℕ). Few (A (after b z) is)) (sym same) few in
+      let k = subst (λ (z : List ℕ). IsInked is (after b z) us more t.line) (sym same) k0 in
+      let s = step b t (us ++ more) line in
+      record {
+        front = s.gap ++ at b t ∷ k.front;
+        next = k.next;
+        whole = joined is b t ts us more line s k e
+            ∙ ap (λ (z : Before). (s.gap ++ at b t ∷ k.front) ++ counted z (pieces_from more k.next))
+            (ap (λ (z : List ℕ). A (after b z) is) same ∙ end);
+        are = joins (s.gap ++ at b t ∷ k.front) k.front (s.clear k.front) (within t b is few0) k.are;
+      }
+
   pub inked : (P : Before → Edge → Type 0) (is : List Ink) (b : Before) (e : Edge) (ts more : List Tok) (line : ℕ) →
       HaveTexts L.number small names is ts → Walks L.number names b e is P → Few (A b is) → IsInked is b ts more line
   inked P [] b e ts more line h w few = record {
@@ -192,47 +211,14 @@ module _ (L : Limits) (small : L.number < 2 ^ 64) (names : List (List ℕ)) wher
       let k = inked P is b Apart ts more line h w.2 few in
       record { front = k.front; next = k.next; whole = k.whole; are = k.are }
   inked P (Says v ∷ is) b e ts more line h w few =
-      let t = h.0 in
-      let same = h.3 in
-      let few0 = subst (λ (z : List ℕ). Few (A (after b z) is)) (sym same) few in
-      let k0 = inked P is (after b v) (edge_of_word v) h.1 more t.line h.4 w.2 few in
-      let k = subst (λ (z : List ℕ). IsInked is (after b z) h.1 more t.line) (sym same) k0 in
-      let s = step b t (h.1 ++ more) line in
-      record {
-        front = s.gap ++ at b t ∷ k.front;
-        next = k.next;
-        whole = joined is b t ts h.1 more line s k h.2
-            ∙ ap (λ (z : List ℕ). (s.gap ++ at b t ∷ k.front) ++ counted (A (after b z) is) (pieces_from more k.next))
-            same;
-        are = (at b t, k.front, s.clear k.front, within t b is few0, says_is v t b same w.1.1, k.are);
-      }
+      inked_behind (Says v) v is b h.0 ts h.1 more line h.2 h.3 refl few
+      (λ front rest p one k. (at b h.0, rest, p, one, says_is v h.0 b h.3 w.1.1, k))
+      (inked P is (after b v) (edge_of_word v) h.1 more h.0.line h.4 w.2 few)
   inked P (Name i ∷ is) b e ts more line h w few =
-      let t = h.0 in
-      let same = h.3 in
-      let few0 = subst (λ (z : List ℕ). Few (A (after b z) is)) (sym same) few in
-      let k0 = inked P is (after b (name_text names i)) Wordy h.1 more t.line h.4 w.2 few in
-      let k = subst (λ (z : List ℕ). IsInked is (after b z) h.1 more t.line) (sym same) k0 in
-      let s = step b t (h.1 ++ more) line in
-      record {
-        front = s.gap ++ at b t ∷ k.front;
-        next = k.next;
-        whole = joined is b t ts h.1 more line s k h.2
-            ∙ ap (λ (z : List ℕ). (s.gap ++ at b t ∷ k.front) ++ counted (A (after b z) is) (pieces_from more k.next))
-            same;
-        are = (at b t, k.front, s.clear k.front, within t b is few0, name_is i t b same w.1, k.are);
-      }
+      inked_behind (Name i) (name_text names i) is b h.0 ts h.1 more line h.2 h.3 refl few
+      (λ front rest p one k. (at b h.0, rest, p, one, name_is i h.0 b h.3 w.1, k))
+      (inked P is (after b (name_text names i)) Wordy h.1 more h.0.line h.4 w.2 few)
   inked P (Number n ∷ is) b e ts more line h w few =
-      let t = h.0 in
-      let same = h.3 in
-      let few0 = subst (λ (z : List ℕ). Few (A (after b z) is)) (sym same) few in
-      let k0 = inked P is (after b (decimal n)) Wordy h.1 more t.line h.4 w.2 few in
-      let k = subst (λ (z : List ℕ). IsInked is (after b z) h.1 more t.line) (sym same) k0 in
-      let s = step b t (h.1 ++ more) line in
-      record {
-        front = s.gap ++ at b t ∷ k.front;
-        next = k.next;
-        whole = joined is b t ts h.1 more line s k h.2
-            ∙ ap (λ (z : List ℕ). (s.gap ++ at b t ∷ k.front) ++ counted (A (after b z) is) (pieces_from more k.next))
-            same;
-        are = (at b t, k.front, s.clear k.front, within t b is few0, number_is n t b same w.1, k.are);
-      }
+      inked_behind (Number n) (decimal n) is b h.0 ts h.1 more line h.2 h.3 refl few
+      (λ front rest p one k. (at b h.0, rest, p, one, number_is n h.0 b h.3 w.1, k))
+      (inked P is (after b (decimal n)) Wordy h.1 more h.0.line h.4 w.2 few)

@@ -1,4 +1,5 @@
 -- The bytes of each part are those of the one text by which a program is printed.
+-- Index: program_inked, whole_program.
 use Rattle.std.proofs.Common.{◌≡◌, ℕ, zero, suc, ℤ, pos, negsuc, Bool, true, false, List, [], ◌∷◌, ◌++◌, codes, decimal, refl, sym, ap, ◌∙◌, append_assoc}
 use Rattle.std.proofs.lemmas.List.{append-nil}
 use Rattle.prog_theory.specs.States.{Term}

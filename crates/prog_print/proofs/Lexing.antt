@@ -188,6 +188,21 @@ module _ (bound : ℕ) (small : bound < 2 ^ 64) (names : List (List ℕ)) where
       ap (λ (z : List ℕ). tokens_past 0 z line column) (append_assoc text (T is) rest) ∙ f.lexed
       ∙ ap (λ (ts : List Tok). f.token ∷ ts) k.lexed
 
+  -- the tokens behind that of an ink, with it
+  lexed_behind : (i : Ink) (is : List Ink) (rest : List ℕ) (line column : ℕ)
+      (f : IsFirst (ink_text names i) (T is ++ rest) line column)
+      (k : IsLexedAs is rest line (column + length (ink_text names i))) →
+      ((t : Tok) (ts : List Tok) → t.text ≡ ink_text names i → HaveTexts is ts → HaveTexts (i ∷ is) (t ∷ ts)) →
+      IsLexedAs (i ∷ is) rest line column
+  lexed_behind i is rest line column f k joins = record {
+    tokens = f.token ∷ k.tokens;
+    next = k.next;
+    place = k.place;
+    ordered = k.ordered;
+    lexed = next_lexed (ink_text names i) is rest line column f k;
+    texts = joins f.token k.tokens f.is k.texts;
+  }
+
   pub lexes : (P : Before → Edge → Type 0) (is : List Ink) (b : Before) (e : Edge) (rest : List ℕ) (line column : ℕ) →
       Walks bound names b e is P → Stops (last_edge bound names e is) rest → IsLexedAs is rest line column
   lexes P [] b e rest line column h s =
@@ -217,27 +232,13 @@ module _ (bound : ℕ) (small : bound < 2 ^ 64) (names : List (List ℕ)) where
       let f = token_first (edge_of_word w) w (T is ++ rest) line column h.1.0
       (inks_stop P is d (edge_of_word w) rest h.2 s) in
       let k = lexes P is d (edge_of_word w) rest line (column + length w) h.2 s in
-      record {
-        tokens = f.token ∷ k.tokens;
-        next = k.next;
-        place = k.place;
-        ordered = k.ordered;
-        lexed = next_lexed w is rest line column f k;
-        texts = (f.token, k.tokens, refl, f.is, k.texts);
-      }
+      lexed_behind (Says w) is rest line column f k (λ t ts q m. (t, ts, refl, q, m))
   lexes P (Name i ∷ is) b e rest line column h s =
       let w = name_text names i in
       let d = after_ink bound names b (Name i) in
       let f = token_first Wordy w (T is ++ rest) line column (name_word w h.1.0) (inks_stop P is d Wordy rest h.2 s) in
       let k = lexes P is d Wordy rest line (column + length w) h.2 s in
-      record {
-        tokens = f.token ∷ k.tokens;
-        next = k.next;
-        place = k.place;
-        ordered = k.ordered;
-        lexed = next_lexed w is rest line column f k;
-        texts = (f.token, k.tokens, refl, f.is, k.texts);
-      }
+      lexed_behind (Name i) is rest line column f k (λ t ts q m. (t, ts, refl, q, m))
   lexes P (Number n ∷ is) b e rest line column h s =
       let w = decimal n in
       let d = after_ink bound names b (Number n) in
@@ -246,11 +247,4 @@ module _ (bound : ℕ) (small : bound < 2 ^ 64) (names : List (List ℕ)) where
       let f = from_one Digits w (T is ++ rest) line column
       ((digits_written n h0).at (T is ++ rest) line column (inks_stop P is d Wordy rest h.2 s)) in
       let k = lexes P is d Wordy rest line (column + length w) h.2 s in
-      record {
-        tokens = f.token ∷ k.tokens;
-        next = k.next;
-        place = k.place;
-        ordered = k.ordered;
-        lexed = next_lexed w is rest line column f k;
-        texts = (f.token, k.tokens, refl, f.is, k.texts);
-      }
+      lexed_behind (Number n) is rest line column f k (λ t ts q m. (t, ts, refl, q, m))

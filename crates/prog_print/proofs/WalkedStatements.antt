@@ -142,34 +142,23 @@ module _ (bound : ℕ) (small : bound < 2 ^ 64) (names : List (List ℕ)) (are :
   abbrev opened : List Ink → List Ink
   opened is = Blank ∷ Says (codes "{") ∷ Feed ∷ is
 
+  opened_walks : (P : Before → Edge → Type 0) (js : List Ink) (d : Before) (f : Edge) →
+      W (after d (codes "{")) Apart js P → W d f (opened js) P
+  opened_walks P js d f h = (blank_follows f, tt, (refl, (left_alone, refl), (refl, tt, h)))
+
   while_walks : (n : ℕ) (a : Block) → Goes (suc n) a → (b c d : Before) (f : Edge) (m : ℕ) → Done c m d f →
       c.statements ≤ b.statements + 1 → c.atoms ≤ b.atoms →
       W d f (opened (block_inks (suc n) a ++ (indent n ++ closing))) (Ended b (1 + counts a) (m + block_atoms a))
   while_walks n a goes b c d f m h st at =
       let v = after d (codes "{") in
-      let h0 = h.statements in let h1 = h.atoms in (
-        blank_follows f,
-        tt,
-        (
-          refl,
-          (left_alone, refl),
-          (
-            refl,
-            tt,
-            walks_more bound names (Ended b (1 + counts a) (m + block_atoms a)) (Ended v (counts a) (block_atoms a))
-                (block_inks (suc n) a) (indent n ++ closing) v Apart (goes v refl)
-                (λ u g k. let k0 : u.statements ≤ d.statements + counts a = k.statements in
-                let k1 : u.atoms ≤ d.atoms + block_atoms a = k.atoms in
-                at_apart (Ended b (1 + counts a) (m + block_atoms a)) (indent n ++ closing) u g k.apart
-                (closing_walks n b u (1 + counts a) (m + block_atoms a) (omega (arith, st, h0, k0)) (omega (
-                  arith,
-                  at,
-                  h1,
-                  k1,
-                )))),
-          ),
-        ),
-      )
+      let h0 = h.statements in let h1 = h.atoms in
+      opened_walks (Ended b (1 + counts a) (m + block_atoms a)) (block_inks (suc n) a ++ (indent n ++ closing)) d f
+      (walks_more bound names (Ended b (1 + counts a) (m + block_atoms a)) (Ended v (counts a) (block_atoms a))
+      (block_inks (suc n) a) (indent n ++ closing) v Apart (goes v refl)
+      (λ u g k. let k0 : u.statements ≤ d.statements + counts a = k.statements in
+      let k1 : u.atoms ≤ d.atoms + block_atoms a = k.atoms in
+      at_apart (Ended b (1 + counts a) (m + block_atoms a)) (indent n ++ closing) u g k.apart
+      (closing_walks n b u (1 + counts a) (m + block_atoms a) (omega (arith, st, h0, k0)) (omega (arith, at, h1, k1)))))
 
   if_walks : (n : ℕ) (a x : Block) → Goes (suc n) a → Goes (suc n) x → (b c d : Before) (f : Edge) (m : ℕ) → Done c m
       d f →
@@ -180,29 +169,19 @@ module _ (bound : ℕ) (small : bound < 2 ^ 64) (names : List (List ℕ)) (are :
       let v = after d (codes "{") in
       let h0 = h.statements in let h1 = h.atoms in
       let K = 1 + counts a + counts x in
-      let M = m + block_atoms a + block_atoms x in (
-        blank_follows f,
-        tt,
-        (
-          refl,
-          (left_alone, refl),
-          (
-            refl,
-            tt,
-            walks_more bound names (Ended b K M) (Ended v (counts a) (block_atoms a))
-                (block_inks (suc n) a) (else_inks n x (block_inks (suc n) x) ++ (indent n ++ closing)) v Apart (ga v
-                refl)
-                (λ u g k. let k0 : u.statements ≤ d.statements + counts a = k.statements in
-                let k1 : u.atoms ≤ d.atoms + block_atoms a = k.atoms in
-                at_apart (Ended b K M) (else_inks n x (block_inks (suc n) x) ++ (indent n ++ closing)) u g k.apart
-                (walks_more bound names (Ended b K M) (Ended u (counts x) (block_atoms x))
-                (else_inks n x (block_inks (suc n) x)) (indent n ++ closing) u Apart (else_walks n x gx u k.rest)
-                (λ w z l. let l0 = l.statements in let l1 = l.atoms in
-                at_apart (Ended b K M) (indent n ++ closing) w z l.apart
-                (closing_walks n b w K M (omega (arith, st, h0, k0, l0)) (omega (arith, at, h1, k1, l1)))))),
-          ),
-        ),
-      )
+      let M = m + block_atoms a + block_atoms x in
+      let rest : List Ink = else_inks n x (block_inks (suc n) x) ++ (indent n ++ closing) in
+      opened_walks (Ended b K M) (block_inks (suc n) a ++ rest) d f
+      (walks_more bound names (Ended b K M) (Ended v (counts a) (block_atoms a)) (block_inks (suc n) a) rest v Apart
+      (ga v refl)
+      (λ u g k. let k0 : u.statements ≤ d.statements + counts a = k.statements in
+      let k1 : u.atoms ≤ d.atoms + block_atoms a = k.atoms in
+      at_apart (Ended b K M) rest u g k.apart
+      (walks_more bound names (Ended b K M) (Ended u (counts x) (block_atoms x))
+      (else_inks n x (block_inks (suc n) x)) (indent n ++ closing) u Apart (else_walks n x gx u k.rest)
+      (λ w z l. let l0 = l.statements in let l1 = l.atoms in
+      at_apart (Ended b K M) (indent n ++ closing) w z l.apart
+      (closing_walks n b w K M (omega (arith, st, h0, k0, l0)) (omega (arith, at, h1, k1, l1)))))))
 
   -- what holds of the parts of statements
   abbrev Num : ℕ → Type 0

@@ -1,5 +1,5 @@
 -- Each run ends for its cause.
--- Index: branch_ends, assume_ends, ends_cause (a step that is not taken), Caused, Suffix, caused_on, caused,
+-- Index: branch_ends, assume_ends, ends_cause (a step that is not taken), Caused, Suffix, at_once, caused_on, caused,
 -- chosen_trace.
 use Rattle.std.proofs.Common.{◌≡◌, ℕ, zero, suc, ◌+◌, ◌-◌, ◌<◌, ◌≤◌, ℤ, Bool, true, false, List, [], ◌∷◌, ◌++◌, map, Option, Some, None, length, refl, sym, ap, ◌∙◌, subst, append_assoc, arith}
 use Rattle.prog_theory.specs.States.{State}
@@ -80,20 +80,26 @@ Suffix cs left = (taken : List ℤ) × (cs ≡ taken ++ left)
 suffix_tail : (cs : List ℤ) (c : ℤ) (ds : List ℤ) → Suffix cs (c ∷ ds) → Suffix cs ds
 suffix_tail cs c ds h = (h.0 ++ c ∷ [], h.1 ∙ sym (append_assoc h.0 (c ∷ []) ds))
 
-caused_on : (turns : ℕ) (top : Numbered) (rest : Stack) (s : State) (cs : List ℤ) (p : Picked) →
-    picked top.number top.stmt rest s cs ≡ p
-    → ((c : Config) (left : List ℤ) → Caused turns left (run_from turns c.stack c.state left))
-    → Caused (suc turns) cs (run_on p (config (top ∷ rest) s) (λ c left. run_from turns c.stack c.state left))
-caused_on turns top rest s cs (Ends e) q h = record {
+-- a run of one configuration, which ends there
+at_once : (turns : ℕ) (stack : Stack) (s : State) (cs : List ℤ) (e : End) → IsCause e (turns - 0) stack s cs →
+    Caused turns cs (record { configs = config stack s ∷ []; ended = e })
+at_once turns stack s cs e cause = record {
   before = [];
-  last = config (top ∷ rest) s;
+  last = config stack s;
   taken = [];
   left = cs;
   configs = refl;
   choices = refl;
   few = omega arith;
-  cause = ends_cause (suc turns - 0) top.number top.stmt rest s cs e (omega arith) q;
+  cause = cause;
 }
+
+caused_on : (turns : ℕ) (top : Numbered) (rest : Stack) (s : State) (cs : List ℤ) (p : Picked) →
+    picked top.number top.stmt rest s cs ≡ p
+    → ((c : Config) (left : List ℤ) → Caused turns left (run_from turns c.stack c.state left))
+    → Caused (suc turns) cs (run_on p (config (top ∷ rest) s) (λ c left. run_from turns c.stack c.state left))
+caused_on turns top rest s cs (Ends e) q h = at_once (suc turns) (top ∷ rest) s cs e
+    (ends_cause (suc turns - 0) top.number top.stmt rest s cs e (omega arith) q)
 caused_on turns top rest s cs (Goes c left) q h =
     let g = h c left in
     let suffix : Suffix cs left = step_leaves (Suffix cs) (suffix_tail cs) top.number top.stmt rest s cs c left
@@ -112,26 +118,8 @@ caused_on turns top rest s cs (Goes c left) q h =
     }
 
 caused : (turns : ℕ) (stack : Stack) (s : State) (cs : List ℤ) → Caused turns cs (run_from turns stack s cs)
-caused turns [] s cs = record {
-  before = [];
-  last = config [] s;
-  taken = [];
-  left = cs;
-  configs = refl;
-  choices = refl;
-  few = omega arith;
-  cause = refl;
-}
-caused zero (top ∷ rest) s cs = record {
-  before = [];
-  last = config (top ∷ rest) s;
-  taken = [];
-  left = cs;
-  configs = refl;
-  choices = refl;
-  few = omega arith;
-  cause = omega arith;
-}
+caused turns [] s cs = at_once turns [] s cs Finished refl
+caused zero (top ∷ rest) s cs = at_once zero (top ∷ rest) s cs TurnsSpent (omega arith)
 caused (suc turns) (top ∷ rest) s cs =
     caused_on turns top rest s cs (picked top.number top.stmt rest s cs) refl
     (λ c left. caused turns c.stack c.state left)

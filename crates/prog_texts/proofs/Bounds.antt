@@ -28,24 +28,10 @@ use Rattle.prog_texts.specs.Conditions.{Start, Bang, Bracket, Ask, Compare, open
 use Rattle.prog_texts.specs.Claims.{SideStart, Single, Listed, side_start, AreTerms, IsSideRest, IsSide as IsSideText, IsClaim as IsClaimText}
 use Rattle.prog_texts.specs.Statements.{Verb, Havocs, Assumes, Asserts, Asks, Loops, Skips, Sets, verb, IsBlock, IsStatementRest, AreStatements}
 use Rattle.prog_texts.specs.Suits.{SuitsSide, SuitsStmt, SuitsBlock}
-use Rattle.prog_texts.proofs.NoDeeper.{many_keeps, chain_keeps}
+use Rattle.prog_texts.proofs.NoDeeper.{many_keeps, chain_keeps, braces_keep, else_keeps, and_then_keeps, claim_keeps}
+use Rattle.prog_texts.proofs.Judged.{begin_is, first_is, verb_is}
 
 -- ---- what was judged
-
-compared : (a b c d room many : Bool) (v : Result First FaultKind) (f : First) →
-    cond a (opening room Bang) (cond b (opening room Bracket)
-    (cond c (cond many (Err TooManyAtoms) (Ok Ask))
-    (cond d (cond many (Err TooManyAtoms) (passed Compare v)) (Err Syntax)))) ≡ Ok (Compare f) → v ≡ Ok f
-compared true b c d true many v f e = absurd cc
-compared true b c d false many v f e = absurd cc
-compared false true c d true many v f e = absurd cc
-compared false true c d false many v f e = absurd cc
-compared false false true d room true v f e = absurd cc
-compared false false true d room false v f e = absurd cc
-compared false false false true room true v f e = absurd cc
-compared false false false true room false (Ok g) f e = let same : g ≡ f = cc in ap Ok same
-compared false false false true room false (Err w) f e = absurd cc
-compared false false false false room many v f e = absurd cc
 
 single_first : (a b p q : Bool) (v : Result First FaultKind) (f : First) →
     cond a (cond p (Err AssertMode) (Ok (Listed Greatest)))
@@ -56,31 +42,6 @@ single_first false true p true v f e = absurd cc
 single_first false true p false v f e = absurd cc
 single_first false false p q (Ok g) f e = let same : g ≡ f = cc in ap Ok same
 single_first false false p q (Err w) f e = absurd cc
-
-sets_known : (a b c d e f g m : Bool) (v : Result ℕ FaultKind) (i : ℕ)
-    → cond a (Some (cond m (Err TooManyStatements) (Ok Havocs)))
-    (cond b (Some (cond m (Err TooManyStatements) (Ok Assumes)))
-    (cond c (Some (cond m (Err TooManyStatements) (Ok Asserts)))
-    (cond d (Some (cond m (Err TooManyStatements) (Ok Asks)))
-    (cond e (Some (cond m (Err TooManyStatements) (Ok Loops)))
-    (cond f (Some (cond m (Err TooManyStatements) (Ok Skips)))
-    (cond g (Some (cond m (Err TooManyStatements) (passed Sets v))) None)))))) ≡ Some (Ok (Sets i)) → v ≡ Ok i
-sets_known true b c d e f g true v i h = absurd cc
-sets_known true b c d e f g false v i h = absurd cc
-sets_known false true c d e f g true v i h = absurd cc
-sets_known false true c d e f g false v i h = absurd cc
-sets_known false false true d e f g true v i h = absurd cc
-sets_known false false true d e f g false v i h = absurd cc
-sets_known false false false true e f g true v i h = absurd cc
-sets_known false false false true e f g false v i h = absurd cc
-sets_known false false false false true f g true v i h = absurd cc
-sets_known false false false false true f g false v i h = absurd cc
-sets_known false false false false false true g true v i h = absurd cc
-sets_known false false false false false true g false v i h = absurd cc
-sets_known false false false false false false true true v i h = absurd cc
-sets_known false false false false false false true false (Ok j) i h = let same : j ≡ i = cc in ap Ok same
-sets_known false false false false false false true false (Err w) i h = absurd cc
-sets_known false false false false false false false m v i h = absurd cc
 
 named_known : (b : Bool) (v : Result ℕ FaultKind) (i : ℕ) → cond b v (Err Syntax) ≡ Ok i → v ≡ Ok i
 named_known true v i e = e
@@ -121,8 +82,8 @@ module _ (L : Limits) (rule : AssertRule) (names : List (List ℕ)) (V : ℕ →
       let right = h.second.second in
       subst E (sym right.second.is) (
         operands t f h.front h.value
-            (compared (says (codes "!") t) (says (codes "(") t) (says (codes "?") t) (begins_operand t) room
-            (is_atom_too_many L t) (first L names t) f e) h.first,
+            (begin_is (says (codes "!") t) (says (codes "(") t) (says (codes "?") t) (begins_operand t) room
+            (is_atom_too_many L t) (first L names t) (Compare f) e).told h.first,
         operand_holds right.front right.value right.first,
       )
 
@@ -155,33 +116,14 @@ module _ (L : Limits) (rule : AssertRule) (names : List (List ℕ)) (V : ℕ →
   side_holds : (us : List Counted) (x : Side) → IsSideText L rule names us x → EachSide x
   side_holds us x h = side_rest_holds h.first.token h.value h.back x h.first.is h.second
 
-  abbrev EachOf : Claim → Type 0
-  EachOf c = EachSide c.left × EachSide c.right
-
-  claim_holds : (us : List Counted) (c : Claim) → IsClaimText L rule names us c → EachOf c
-  claim_holds us c h = let m = h.second.second in subst EachOf (sym m.second.is)
-      (side_holds h.front h.value h.first, side_holds m.front m.value m.first)
-
   abbrev Good : Block → Type 0
   Good b = EachBlock V T b
 
   abbrev GoodStmt : Stmt → Type 0
   GoodStmt x = EachStmt V T x
 
-  and_then-holds : (xs : Block) (x : Stmt) → Good xs → GoodStmt x → Good (and_then xs x)
-  and_then-holds tree.Empty x h k = (k, tt)
-  and_then-holds (tree.Then y ys) x h k = (h.0, and_then-holds ys x h.1 k)
-
   module _ (d : ℕ) (room : Bool) (Inner : List Counted → Block → Type 0)
       (part : (us : List Counted) (b : Block) → Inner us b → Good b) where
-    braces_hold : (us : List Counted) (b : Block) → IsBlock room Inner us b → Good b
-    braces_hold us b h = let m = h.second in subst Good (sym m.second.second.is) (part m.front m.value m.first)
-
-    else_holds : (us : List Counted) (b : Block) →
-        Maybe skipped (goes_on (codes "else")) tree.Empty (λ u. IsBlock room Inner) us b → Good b
-    else_holds us b (LeftOut none is) = subst Good (sym is) tt
-    else_holds us b (Written t a vs e k h) = braces_hold vs b h
-
     condition_at_holds : (us : List Counted) (c : Cond) → IsCondition L names d us c → E c
     condition_at_holds us c h = condition_holds (negation_holds d) us c h
 
@@ -191,35 +133,40 @@ module _ (L : Limits) (rule : AssertRule) (names : List (List ℕ)) (V : ℕ →
         (variables h.first.token h.value (named_known (is_variable h.first.token)
         (known names h.first.token) h.value h.first.is))
     stmt_holds t Assumes us x e h = subst GoodStmt (sym h.second.second.is) (condition_at_holds h.front h.value h.first)
-    stmt_holds t Asserts us x e h = subst GoodStmt (sym h.second.second.is) (claim_holds h.front h.value h.first)
+    stmt_holds t Asserts us x e h = subst GoodStmt (sym h.second.second.is)
+        (claim_keeps L rule names EachSide side_holds h.front h.value h.first)
     stmt_holds t Asks us x e h =
         let m = h.second in
         subst GoodStmt (sym m.second.second.is) (
           condition_at_holds h.front h.value h.first,
-          braces_hold m.front m.value m.first,
-          else_holds m.second.front m.second.value m.second.first,
+          braces_keep room Inner Good part m.front m.value m.first,
+          else_keeps room Inner Good tt part m.second.front m.second.value m.second.first,
         )
     stmt_holds t Loops us x e h = let m = h.second in
         subst GoodStmt (sym m.second.is) (
           condition_at_holds h.front h.value h.first,
-          braces_hold m.front m.value m.first,
+          braces_keep room Inner Good part m.front m.value m.first,
         )
     stmt_holds t Skips us x e h = subst GoodStmt (sym h.second.is) tt
     stmt_holds t (Sets i) us x e h = let m = h.second in
         subst GoodStmt (sym m.second.second.is) (
           variables t i
-              (sets_known (says (codes "havoc") t) (says (codes "assume") t) (says (codes "assert") t) (says (codes "if") t)
-              (says (codes "while") t) (says (codes "skip") t) (is_variable t) (is_one_too_many L t) (known names t) i e),
+              (verb_is (says (codes "havoc") t) (says (codes "assume") t) (says (codes "assert") t)
+              (says (codes "if") t)
+              (says (codes "while") t) (says (codes "skip") t) (is_variable t) (is_one_too_many L t) (known names t)
+              (Sets i) e).told,
           operand_holds m.front m.value m.first,
         )
 
   pub block_holds : (d : ℕ) (us : List Counted) (b : Block) → AreStatements L rule names d us b → Good b
   unfolding AreStatements
   block_holds zero us b h = many_judged Good (λ xs t v ws ys q j k. subst Good (sym k.second.is)
-      (and_then-holds xs k.value q (stmt_holds 0 false Nowhere (λ us b h. absurd h) t v k.front k.value j k.first)))
+      (and_then_keeps Good GoodStmt tt (λ x xs h k. (h, k)) (λ x xs h. h) xs k.value q
+      (stmt_holds 0 false Nowhere (λ us b h. absurd h) t v k.front k.value j k.first)))
       tree.Empty us b tt h
   block_holds (suc d) us b h = many_judged Good (λ xs t v ws ys q j k. subst Good (sym k.second.is)
-      (and_then-holds xs k.value q (stmt_holds (suc d) true (AreStatements L rule names d)
+      (and_then_keeps Good GoodStmt tt (λ x xs h k. (h, k)) (λ x xs h. h) xs k.value q
+      (stmt_holds (suc d) true (AreStatements L rule names d)
       (block_holds d) t v k.front k.value j k.first))) tree.Empty us b tt h
 
 -- ---- coordinates and numbers
@@ -232,25 +179,6 @@ known_place names t i e = at (place_of (text t) names) refl e
         (omega (arith, same), omega (arith, same, p))
     at None k h = absurd cc
 
-first_variable : (a b c : Bool) (v w : Result ℕ FaultKind) (i : ℕ) →
-    cond a (passed Value v) (cond b (Ok Negative) (cond c (passed Variable w) (Err Syntax))) ≡ Ok (Variable i) →
-    w ≡ Ok i
-first_variable true b c (Ok n) w i e = absurd cc
-first_variable true b c (Err what) w i e = absurd cc
-first_variable false true c v w i e = absurd cc
-first_variable false false true v (Ok j) i e = let same : j ≡ i = cc in ap Ok same
-first_variable false false true v (Err what) i e = absurd cc
-first_variable false false false v w i e = absurd cc
-
-first_value : (a b c : Bool) (v w : Result ℕ FaultKind) (n : ℕ) →
-    cond a (passed Value v) (cond b (Ok Negative) (cond c (passed Variable w) (Err Syntax))) ≡ Ok (Value n) → v ≡ Ok n
-first_value true b c (Ok m) w n e = let same : m ≡ n = cc in ap Ok same
-first_value true b c (Err what) w n e = absurd cc
-first_value false true c v w n e = absurd cc
-first_value false false true v (Ok j) n e = absurd cc
-first_value false false true v (Err what) n e = absurd cc
-first_value false false false v w n e = absurd cc
-
 -- the term is one of these names
 pub operand_coordinate : (L : Limits) (names : List (List ℕ)) (t : Counted) (f : First) (us : List Counted) (x : Term) →
     first L names t ≡ Ok f → IsOperandRest L f us x → x.coord ≤ length names
@@ -258,12 +186,12 @@ operand_coordinate L names t (Value n) us x e h = let k = ap (λ (z : Term). z.c
 operand_coordinate L names t Negative us x e h = let k = ap (λ (z : Term). z.coord) h.second.is in omega (arith, k)
 operand_coordinate L names t (Variable i) us x e (LeftOut none is) =
     let k = ap (λ (z : Term). z.coord) is in let p =
-    (known_place names t i (first_variable (is_digits t) (says (codes "-") t) (is_variable t) (sized L.number t)
-    (known names t) i e)).1 in omega (arith, k, p)
+    (known_place names t i (first_is (is_digits t) (says (codes "-") t) (is_variable t) (sized L.number t)
+    (known names t) (Variable i) e)).1 in omega (arith, k, p)
 operand_coordinate L names t (Variable i) us x e (Written u a vs q j h) =
     let k = ap (λ (z : Term). z.coord) h.second.is in let p =
-    (known_place names t i (first_variable (is_digits t) (says (codes "-") t) (is_variable t) (sized L.number t)
-    (known names t) i e)).1 in omega (arith, k, p)
+    (known_place names t i (first_is (is_digits t) (says (codes "-") t) (is_variable t) (sized L.number t)
+    (known names t) (Variable i) e)).1 in omega (arith, k, p)
 
 pub sized_at_most : (bound : ℕ) (t : Counted) (n : ℕ) → sized bound t ≡ Ok n → n ≤ bound
 sized_at_most bound t n e = at (nat_le (number_of (text t)) bound) refl e
@@ -294,8 +222,8 @@ pub operand_number : (L : Limits) (names : List (List ℕ)) (t : Counted) (f : F
     first L names t ≡ Ok f → IsOperandRest L f us x → unsigned_abs x.add ≤ L.number
 operand_number L names t (Value n) us x e h =
     let k = ap (λ (z : Term). unsigned_abs z.add) h.is in let p =
-    sized_at_most L.number t n (first_value (is_digits t) (says (codes "-") t) (is_variable t) (sized L.number t)
-    (known names t) n e) in omega (arith, k, p)
+    sized_at_most L.number t n (first_is (is_digits t) (says (codes "-") t) (is_variable t) (sized L.number t)
+    (known names t) (Value n) e) in omega (arith, k, p)
 operand_number L names t Negative us x e h =
     let k = ap (λ (z : Term). unsigned_abs z.add) h.second.is in let p =
     number_at_most L.number h.first.token h.value h.first.is in omega (arith, k, p, abs_neg h.value)

@@ -29,30 +29,55 @@ abbrev one : Limits
 one = record { vars = 1; statements = 1; atoms = 1; depth = 1; number = 9; entry = 99 }
 
 -- an early end; a name declared twice; an unknown name; a number out of range; the wrong sum word
-early : (program_answer Either (codes "vars x;\nx := 5") ≡ Err (Syntax 3 1))
+abbrev Early : Type 0
+Early =
+    (program_answer Either (codes "vars x;\nx := 5") ≡ Err (Syntax 3 1))
     × (program_answer Either (codes "vars x\n x;") ≡ Err (DuplicateName 2))
     × (program_answer Either (codes "vars x;\nq := $;") ≡ Err (UnknownName 2))
     × (program_answer Either (codes "vars x;\nx := 2147483649;") ≡ Err (NumberRange 2))
     × (program_answer MinOnly (codes "vars x;\nassert x <= max $;") ≡ Err (AssertMode 2))
-unfolding whole_program_at program_at declaration_at declared_at statements_at one_more_at statement_rest block_at
-    claim_at side_at side_rest listed_at terms_from next_term_at negation_at negation_rest bracket_at compared_at
-    chain_at link_at operand_rest moved_at counted pieces_from tokens_past sign_len tail_len past token_past maybe_past
-    many_from many_past token_at read_then gives past_lines
-early = (refl, refl, refl, refl, refl)
 
 -- a relation in the place of a comparison; two signs; `end` in a block; too many names, statements and atoms; too deep
-late : (program_answer Either (codes "vars x;\nif x = 3 { }") ≡ Err (Syntax 2 6))
+abbrev Late : Type 0
+Late =
+    (program_answer Either (codes "vars x;\nif x = 3 { }") ≡ Err (Syntax 2 6))
     × (program_answer Either (codes "vars x;\nx := x + -3;") ≡ Err (Syntax 2 10))
     × (program_answer Either (codes "vars ;\nif ? { end }") ≡ Err (Syntax 2 8))
     × (program_within one Either (codes "vars x x;") ≡ Err (TooManyVars 1))
     × (program_within one Either (codes "vars x;\nskip;\ny := 1;") ≡ Err (TooManyStatements 3))
     × (program_within one Either (codes "vars x;\nassume ? || y < 1;") ≡ Err (TooManyAtoms 2))
     × (program_within one Either (codes "vars x;\nassume !!?;") ≡ Err (TooDeep 2))
+
+-- a statement counts behind `;`, `{` and `}`, with its word or without
+abbrev Counts : Type 0
+Counts =
+    (program_within one Either (codes "vars x;\nif ? { }\nx := 1;") ≡ Err (TooManyStatements 3))
+    × (program_within one Either (codes "vars x;\nif ? {\nx := 1; }") ≡ Err (TooManyStatements 3))
+    × (program_within one Either (codes "vars x;\nx := 1;\nx := 1;") ≡ Err (TooManyStatements 3))
+    × (program_within one Either (codes "vars x;\nwhile ? {\nskip; }") ≡ Err (TooManyStatements 3))
+
+-- an atom counts behind each sign and word that asks, and not in an assert
+abbrev Asked : Type 0
+Asked =
+    (program_within asks Either (codes "vars x; assume ? &&\nx < 1;") ≡ Err (TooManyAtoms 2))
+    × (program_within asks Either (codes "vars x; assume ? || (\n1 < x);") ≡ Err (TooManyAtoms 2))
+    × (program_within asks Either (codes "vars x; assume ? || !\n-1 < x;") ≡ Err (TooManyAtoms 2))
+    × (program_within asks Either (codes "vars x; assume ?; if\n? { }") ≡ Err (TooManyAtoms 2))
+    × (program_within asks Either (codes "vars x; assume ?; while\n? { }") ≡ Err (TooManyAtoms 2))
+    × (program_within asks Either (codes "vars x; assume ?; assume\n? ;") ≡ Err (TooManyAtoms 2))
+    × (program_within asks Either (codes "vars; assert max(1, 2) <= min(1, 3); assume ?") ≡ Err (Syntax 2 1))
+
+refused : Early × Late × Counts × Asked
 unfolding whole_program_at program_at declaration_at declared_at statements_at one_more_at statement_rest block_at
     claim_at side_at side_rest listed_at terms_from next_term_at negation_at negation_rest bracket_at compared_at
     chain_at link_at operand_rest moved_at counted pieces_from tokens_past sign_len tail_len past token_past maybe_past
     many_from many_past token_at read_then gives past_lines
-late = (refl, refl, refl, refl, refl, refl, refl)
+refused = (
+  (refl, refl, refl, refl, refl),
+  (refl, refl, refl, refl, refl, refl, refl),
+  (refl, refl, refl, refl),
+  (refl, refl, refl, refl, refl, refl, refl),
+)
 
 -- the first row has one number for each variable
 traced : (trace_answer (codes "vars x; start [1, 2] choices []") ≡ Err (Syntax 1 17))
@@ -66,28 +91,3 @@ unfolding trace_file_at row_at row_rest_at more_at next_entry_at entry_rest past
     next_term_at negation_at negation_rest bracket_at compared_at chain_at link_at operand_rest moved_at counted
     pieces_from tokens_past sign_len tail_len past token_past maybe_past many_from many_past token_at read_then gives
 traced = (refl, refl, refl, refl)
-
--- a statement counts behind `;`, `{` and `}`, with its word or without
-counts : (program_within one Either (codes "vars x;\nif ? { }\nx := 1;") ≡ Err (TooManyStatements 3))
-    × (program_within one Either (codes "vars x;\nif ? {\nx := 1; }") ≡ Err (TooManyStatements 3))
-    × (program_within one Either (codes "vars x;\nx := 1;\nx := 1;") ≡ Err (TooManyStatements 3))
-    × (program_within one Either (codes "vars x;\nwhile ? {\nskip; }") ≡ Err (TooManyStatements 3))
-unfolding whole_program_at program_at declaration_at declared_at statements_at one_more_at statement_rest block_at
-    claim_at side_at side_rest listed_at terms_from next_term_at negation_at negation_rest bracket_at compared_at
-    chain_at link_at operand_rest moved_at counted pieces_from tokens_past sign_len tail_len past token_past maybe_past
-    many_from many_past token_at read_then gives past_lines
-counts = (refl, refl, refl, refl)
-
--- an atom counts behind each sign and word that asks, and not in an assert
-asked : (program_within asks Either (codes "vars x; assume ? &&\nx < 1;") ≡ Err (TooManyAtoms 2))
-    × (program_within asks Either (codes "vars x; assume ? || (\n1 < x);") ≡ Err (TooManyAtoms 2))
-    × (program_within asks Either (codes "vars x; assume ? || !\n-1 < x;") ≡ Err (TooManyAtoms 2))
-    × (program_within asks Either (codes "vars x; assume ?; if\n? { }") ≡ Err (TooManyAtoms 2))
-    × (program_within asks Either (codes "vars x; assume ?; while\n? { }") ≡ Err (TooManyAtoms 2))
-    × (program_within asks Either (codes "vars x; assume ?; assume\n? ;") ≡ Err (TooManyAtoms 2))
-    × (program_within asks Either (codes "vars; assert max(1, 2) <= min(1, 3); assume ?") ≡ Err (Syntax 2 1))
-unfolding whole_program_at program_at declaration_at declared_at statements_at one_more_at statement_rest block_at
-    claim_at side_at side_rest listed_at terms_from next_term_at negation_at negation_rest bracket_at compared_at
-    chain_at link_at operand_rest moved_at counted pieces_from tokens_past sign_len tail_len past token_past maybe_past
-    many_from many_past token_at read_then gives past_lines
-asked = (refl, refl, refl, refl, refl, refl, refl)

@@ -1,41 +1,30 @@
 -- A printed program is nested no deeper than any text of it.
--- Index: many_keeps, chain_keeps, condition_nests, block_nests.
-use Rattle.std.proofs.Common.{◌≤◌, ℕ, zero, suc, true, false, Option, List, codes, Result, sym, subst, arith}
+-- Index: many_keeps, chain_keeps, braces_keep, else_keeps, and_then_keeps, claim_keeps, condition_nests, block_nests.
+use Rattle.std.proofs.Common.{◌≤◌, ℕ, zero, suc, Bool, true, false, Option, List, codes, Result, sym, subst, arith}
 use Rattle.trop_text.specs.declared.fault.FaultKind.{FaultKind}
 use Rattle.shape_grammar.specs.Texts.{Maybe, LeftOut, Written, Many, NoMore, OneMore}
 use Rattle.prog_theory.specs.Conditions.{Cond, Any, Atom, Not, And, Or}
-use Rattle.prog_theory.specs.Statements.{Stmt, Set, Havoc, Assume, Assert, If, While, Skip, Block}
+use Rattle.prog_theory.specs.Statements.{Side, Claim, Stmt, Set, Havoc, Assume, Assert, If, While, Skip, Block}
 use Rattle.prog_theory.specs.Statements as tree
 use Rattle.prog_theory.specs.Limits.{Limits}
 use Rattle.prog_texts.specs.AssertRule.{AssertRule}
 use Rattle.prog_texts.specs.Words.{Counted, skipped}
 use Rattle.prog_texts.specs.Judges.{goes_on}
 use Rattle.prog_texts.specs.Conditions.{Start, Bang, Bracket, Ask, Compare, IsChain, IsConditionOf, IsNegationRest, IsNegation, IsCondition, Nowhere}
+use Rattle.prog_texts.specs.Claims.{IsSide, IsClaim}
 use Rattle.prog_theory.specs.Blocks.{and_then}
 use Rattle.prog_texts.specs.Statements.{Verb, Havocs, Assumes, Asserts, Asks, Loops, Skips, Sets, IsBlock, IsStatementRest, AreStatements}
 use Rattle.prog_theory.specs.Nesting.{Loose, Tight, Single}
 use Rattle.prog_theory.specs.Nesting.{cond_nesting, stmt_nesting, block_nesting}
 
-loose-tight : (c : Cond) → cond_nesting Loose c ≤ cond_nesting Tight c
-loose-tight Any = omega arith
-loose-tight (Atom a c b) = omega arith
-loose-tight (Not c) = omega arith
-loose-tight (And a b) = omega arith
-loose-tight (Or a b) = omega arith
-
-tight-single : (c : Cond) → cond_nesting Tight c ≤ cond_nesting Single c
-tight-single Any = omega arith
-tight-single (Atom a c b) = omega arith
-tight-single (Not c) = omega arith
-tight-single (And a b) = omega arith
-tight-single (Or a b) = omega arith
-
-single-loose : (c : Cond) → cond_nesting Single c ≤ suc (cond_nesting Loose c)
-single-loose Any = omega arith
-single-loose (Atom a c b) = omega arith
-single-loose (Not c) = omega arith
-single-loose (And a b) = omega arith
-single-loose (Or a b) = omega arith
+-- a condition is nested no deeper where it binds more loosely
+levels : (c : Cond) → (cond_nesting Loose c ≤ cond_nesting Tight c)
+    × (cond_nesting Tight c ≤ cond_nesting Single c) × (cond_nesting Single c ≤ suc (cond_nesting Loose c))
+levels Any = (omega arith, omega arith, omega arith)
+levels (Atom a c b) = (omega arith, omega arith, omega arith)
+levels (Not c) = (omega arith, omega arith, omega arith)
+levels (And a b) = (omega arith, omega arith, omega arith)
+levels (Or a b) = (omega arith, omega arith, omega arith)
 
 -- what each step keeps holds at the end
 pub many_keeps : {A V : Type 0} {J : V → Counted → Option (Result A FaultKind)} {S : V → A → List Counted → V → Type 0}
@@ -51,14 +40,44 @@ chain_keeps word join P Q part up both us c h =
     many_keeps Q (λ x a ws y q k. subst Q (sym k.second.is) (both x k.value q (part k.front k.value k.first))) h.value
     h.back c (up h.value (part h.front h.value h.first)) h.second
 
+-- what is kept of the blocks of a part is kept of a block in braces, and of one behind `else` that may be left out
+pub braces_keep : (room : Bool) (Inner : List Counted → Block → Type 0) (P : Block → Type 0) →
+    ((us : List Counted) (b : Block) → Inner us b → P b) → (us : List Counted) (b : Block) →
+    IsBlock room Inner us b → P b
+braces_keep room Inner P part us b h =
+    let m = h.second in subst P (sym m.second.second.is) (part m.front m.value m.first)
+
+pub else_keeps : (room : Bool) (Inner : List Counted → Block → Type 0) (P : Block → Type 0) → P tree.Empty →
+    ((us : List Counted) (b : Block) → Inner us b → P b) → (us : List Counted) (b : Block) →
+    Maybe skipped (goes_on (codes "else")) tree.Empty (λ u. IsBlock room Inner) us b → P b
+else_keeps room Inner P none part us b (LeftOut e is) = subst P (sym is) none
+else_keeps room Inner P none part us b (Written t a vs e k h) = braces_keep room Inner P part vs b h
+
+-- what holds of each statement of a block holds of those of a block with one more
+pub and_then_keeps : (P : Block → Type 0) (Q : Stmt → Type 0) → P tree.Empty →
+    ((x : Stmt) (xs : Block) → Q x → P xs → P (tree.Then x xs)) →
+    ((x : Stmt) (xs : Block) → P (tree.Then x xs) → (Q x × P xs)) → (xs : Block) (x : Stmt) → P xs → Q x →
+    P (and_then xs x)
+and_then_keeps P Q none join parts tree.Empty x h k = join x tree.Empty k none
+and_then_keeps P Q none join parts (tree.Then y ys) x h k =
+    let p = parts y ys h in join y (and_then ys x) p.0 (and_then_keeps P Q none join parts ys x p.1 k)
+
+-- what holds of each side holds of both sides of a claim
+pub claim_keeps : (L : Limits) (rule : AssertRule) (names : List (List ℕ)) (P : Side → Type 0) →
+    ((us : List Counted) (x : Side) → IsSide L rule names us x → P x) → (us : List Counted) (c : Claim) →
+    IsClaim L rule names us c → P c.left × P c.right
+claim_keeps L rule names P part us c h = let m = h.second.second in
+    subst (λ (z : Claim). P z.left × P z.right) (sym m.second.is)
+    (part h.front h.value h.first, part m.front m.value m.first)
+
 condition_of_nests : (d : ℕ) {R : List Counted → Cond → Type 0} →
     ((us : List Counted) (c : Cond) → R us c → cond_nesting Single c ≤ d) → (us : List Counted) (c : Cond) →
     IsConditionOf R us c → cond_nesting Loose c ≤ d
 condition_of_nests d {R} part us c h =
     chain_keeps (codes "||") Or (λ c. cond_nesting Tight c ≤ d) (λ c. cond_nesting Loose c ≤ d)
     (chain_keeps (codes "&&") And (λ c. cond_nesting Single c ≤ d) (λ c. cond_nesting Tight c ≤ d) part
-    (λ c k. omega (arith, k, tight-single c)) (λ a b k m. omega (arith, k, m)))
-    (λ c k. omega (arith, k, loose-tight c)) (λ a b k m. omega (arith, k, m)) us c h
+    (λ c k. omega (arith, k, (levels c).1)) (λ a b k m. omega (arith, k, m)))
+    (λ c k. omega (arith, k, (levels c).0)) (λ a b k m. omega (arith, k, m)) us c h
 
 module _ (L : Limits) (names : List (List ℕ)) where
   none_inside : (s : Start) (us : List Counted) (c : Cond) → IsNegationRest L names Nowhere s us c →
@@ -74,7 +93,7 @@ module _ (L : Limits) (names : List (List ℕ)) where
   some_inside d part Bang us c h = let k = part h.front h.value h.first in
       subst (λ z. cond_nesting Single z ≤ suc d) (sym h.second.is) (omega (arith, k))
   some_inside d part Bracket us c h = let k = condition_of_nests d part h.front h.value h.first in
-      subst (λ z. cond_nesting Single z ≤ suc d) (sym h.second.second.is) (omega (arith, k, single-loose h.value))
+      subst (λ z. cond_nesting Single z ≤ suc d) (sym h.second.second.is) (omega (arith, k, (levels h.value).2))
   some_inside d part Ask us c h = subst (λ z. cond_nesting Single z ≤ suc d) (sym h.is) (omega arith)
   some_inside d part (Compare f) us c h = subst (λ z. cond_nesting Single z ≤ suc d) (sym h.second.second.second.is)
       (omega arith)
@@ -110,17 +129,6 @@ module _ (L : Limits) (rule : AssertRule) (names : List (List ℕ)) where
   none_in Skips us x h = subst (λ z. stmt_nesting z ≤ 0) (sym h.second.is) (omega arith)
   none_in (Sets i) us x h = subst (λ z. stmt_nesting z ≤ 0) (sym h.second.second.second.is) (omega arith)
 
-  braces_nest : (d : ℕ) → ((us : List Counted) (b : Block) → AreStatements L rule names d us b → Nests d b) →
-      (us : List Counted) (b : Block) → IsBlock true (AreStatements L rule names d) us b → Nests d b
-  braces_nest d part us b h = let m = h.second in subst (Nests d) (sym m.second.second.is)
-      (part m.front m.value m.first)
-
-  else_nests : (d : ℕ) → ((us : List Counted) (b : Block) → AreStatements L rule names d us b → Nests d b) →
-      (us : List Counted) (b : Block) → Maybe skipped (goes_on (codes "else")) tree.Empty
-      (λ u. IsBlock true (AreStatements L rule names d)) us b → Nests d b
-  else_nests d part us b (LeftOut none is) = subst (Nests d) (sym is) (omega arith)
-  else_nests d part us b (Written t a vs e k h) = braces_nest d part vs b h
-
   some_in : (d : ℕ) → ((us : List Counted) (b : Block) → AreStatements L rule names d us b → Nests d b) →
       (v : Verb) (us : List Counted) (x : Stmt) → IsStatementRest L rule names (suc d) true
       (AreStatements L rule names d) v us x → stmt_nesting x ≤ suc d
@@ -131,13 +139,14 @@ module _ (L : Limits) (rule : AssertRule) (names : List (List ℕ)) where
   some_in d part Asks us x h =
       let k = condition_nests L names (suc d) h.front h.value h.first in
       let m = h.second in
-      let a = braces_nest d part m.front m.value m.first in
-      let b = else_nests d part m.second.front m.second.value m.second.first in
+      let a = braces_keep true (AreStatements L rule names d) (Nests d) part m.front m.value m.first in
+      let b = else_keeps true (AreStatements L rule names d) (Nests d) (omega arith) part m.second.front
+      m.second.value m.second.first in
       subst (λ z. stmt_nesting z ≤ suc d) (sym m.second.second.is) (omega (arith, k, a, b))
   some_in d part Loops us x h =
       let k = condition_nests L names (suc d) h.front h.value h.first in
       let m = h.second in
-      let a = braces_nest d part m.front m.value m.first in
+      let a = braces_keep true (AreStatements L rule names d) (Nests d) part m.front m.value m.first in
       subst (λ z. stmt_nesting z ≤ suc d) (sym m.second.is) (omega (arith, k, a))
   some_in d part Skips us x h = subst (λ z. stmt_nesting z ≤ suc d) (sym h.second.is) (omega arith)
   some_in d part (Sets i) us x h = subst (λ z. stmt_nesting z ≤ suc d) (sym h.second.second.second.is) (omega arith)

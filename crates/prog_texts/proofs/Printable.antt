@@ -23,7 +23,7 @@ use Rattle.prog_texts.specs.Suits.{SuitsSide, SuitsStmt, SuitsBlock, MayFollow}
 use Rattle.prog_theory.specs.Named.{Named}
 use Rattle.prog_texts.specs.Programs.{undeclared, AreNew, IsProgram}
 use Rattle.prog_texts.proofs.Signs.{text_is}
-use Rattle.prog_texts.proofs.NoDeeper.{many_keeps, block_nests}
+use Rattle.prog_texts.proofs.NoDeeper.{many_keeps, block_nests, braces_keep, else_keeps, and_then_keeps, claim_keeps}
 use Rattle.prog_texts.proofs.PrintedPrograms.{IsPrintable}
 
 -- ---- names
@@ -118,13 +118,6 @@ module _ (L : Limits) (rule : AssertRule) (names : List (List ℕ)) where
   side_suits : (us : List Counted) (s : Side) → IsSide L rule names us s → Suits s
   side_suits us s h = rest_suits h.value h.first.token h.back s h.first.is h.second
 
-  abbrev ClaimSuits : Claim → Type 0
-  ClaimSuits c = Suits c.left × Suits c.right
-
-  claim_suits : (us : List Counted) (c : Claim) → IsClaim L rule names us c → ClaimSuits c
-  claim_suits us c h = let m = h.second.second in subst ClaimSuits (sym m.second.is)
-      (side_suits h.front h.value h.first, side_suits m.front m.value m.first)
-
   -- ---- statements
 
   abbrev Good : Block → Type 0
@@ -133,42 +126,34 @@ module _ (L : Limits) (rule : AssertRule) (names : List (List ℕ)) where
   abbrev GoodStmt : Stmt → Type 0
   GoodStmt x = SuitsStmt rule x
 
-  and_then-suits : (xs : Block) (x : Stmt) → Good xs → GoodStmt x → Good (and_then xs x)
-  and_then-suits tree.Empty x h k = (k, tt)
-  and_then-suits (tree.Then y ys) x h k = (h.0, and_then-suits ys x h.1 k)
-
   module _ (d : ℕ) (room : Bool) (Inner : List Counted → Block → Type 0)
       (part : (us : List Counted) (b : Block) → Inner us b → Good b) where
-    braces_suit : (us : List Counted) (b : Block) → IsBlock room Inner us b → Good b
-    braces_suit us b h = let m = h.second in subst Good (sym m.second.second.is) (part m.front m.value m.first)
-
-    else_suits : (us : List Counted) (b : Block) →
-        Maybe skipped (goes_on (codes "else")) tree.Empty (λ u. IsBlock room Inner) us b → Good b
-    else_suits us b (LeftOut none is) = subst Good (sym is) tt
-    else_suits us b (Written t a vs e k h) = braces_suit vs b h
-
     stmt_suits : (v : Verb) (us : List Counted) (x : Stmt) → IsStatementRest L rule names d room Inner v us x →
         GoodStmt x
     stmt_suits Havocs us x h = subst GoodStmt (sym h.second.second.is) tt
     stmt_suits Assumes us x h = subst GoodStmt (sym h.second.second.is) tt
-    stmt_suits Asserts us x h = subst GoodStmt (sym h.second.second.is) (claim_suits h.front h.value h.first)
+    stmt_suits Asserts us x h = subst GoodStmt (sym h.second.second.is)
+        (claim_keeps L rule names Suits side_suits h.front h.value h.first)
     stmt_suits Asks us x h =
         let m = h.second in
         subst GoodStmt (sym m.second.second.is) (
-          braces_suit m.front m.value m.first,
-          else_suits m.second.front m.second.value m.second.first,
+          braces_keep room Inner Good part m.front m.value m.first,
+          else_keeps room Inner Good tt part m.second.front m.second.value m.second.first,
         )
-    stmt_suits Loops us x h = let m = h.second in subst GoodStmt (sym m.second.is) (braces_suit m.front m.value m.first)
+    stmt_suits Loops us x h = let m = h.second in subst GoodStmt (sym m.second.is)
+        (braces_keep room Inner Good part m.front m.value m.first)
     stmt_suits Skips us x h = subst GoodStmt (sym h.second.is) tt
     stmt_suits (Sets i) us x h = subst GoodStmt (sym h.second.second.second.is) tt
 
   block_suits : (d : ℕ) (us : List Counted) (b : Block) → AreStatements L rule names d us b → Good b
   unfolding AreStatements
   block_suits zero us b h = many_keeps Good (λ xs v ws ys q k. subst Good (sym k.second.is)
-      (and_then-suits xs k.value q (stmt_suits 0 false Nowhere (λ us b h. absurd h) v k.front k.value k.first)))
+      (and_then_keeps Good GoodStmt tt (λ x xs h k. (h, k)) (λ x xs h. h) xs k.value q
+      (stmt_suits 0 false Nowhere (λ us b h. absurd h) v k.front k.value k.first)))
       tree.Empty us b tt h
   block_suits (suc d) us b h = many_keeps Good (λ xs v ws ys q k. subst Good (sym k.second.is)
-      (and_then-suits xs k.value q (stmt_suits (suc d) true (AreStatements L rule names d)
+      (and_then_keeps Good GoodStmt tt (λ x xs h k. (h, k)) (λ x xs h. h) xs k.value q
+      (stmt_suits (suc d) true (AreStatements L rule names d)
       (block_suits d) v k.front k.value k.first))) tree.Empty us b tt h
 
 -- a program that is spelled under a rule may be printed under it

@@ -93,6 +93,22 @@ module _ (L : Limits) (names : List (List ℕ)) where
     pub first : AreInks L names is front
     pub second : AreInks L names js back
 
+  -- the parts behind a token, with the token
+  split_behind : (i : Ink) (is js : List Ink) (ts : List Counted) (t : Counted) (rest : List Counted) →
+      past skipped ts ≡ t ∷ rest → ((us vs : List Counted) → AreInks L names is us →
+      past skipped vs ≡ t ∷ us → AreInks L names (i ∷ is) vs) → IsSplit is js rest → IsSplit (i ∷ is) js ts
+  split_behind i is js ts t rest e joined k =
+      let g = gap skipped ts in
+      record {
+        front = g.front ++ t ∷ k.front;
+        back = k.back;
+        whole =
+            token_whole language ts t rest e g ∙ ap (λ (z : List Counted). g.front ++ t ∷ z) k.whole
+            ∙ sym (regroup language g.front t k.front k.back);
+        first = joined k.front (g.front ++ t ∷ k.front) k.first (at_token language ts t rest e g k.front);
+        second = k.second;
+      }
+
   pub split : (is js : List Ink) (ts : List Counted) → AreInks L names (is ++ js) ts → IsSplit is js ts
   split [] js ts h = record { front = []; back = ts; whole = refl; first = refl; second = h }
   split (Blank ∷ is) js ts h = let k = split is js ts h in
@@ -100,44 +116,11 @@ module _ (L : Limits) (names : List (List ℕ)) where
   split (Feed ∷ is) js ts h = let k = split is js ts h in
       record { front = k.front; back = k.back; whole = k.whole; first = k.first; second = k.second }
   split (Says w ∷ is) js ts h =
-      let k = split is js h.1 h.5 in
-      let g = gap skipped ts in
-      record {
-        front = g.front ++ h.0 ∷ k.front;
-        back = k.back;
-        whole =
-            token_whole language ts h.0 h.1 h.2 g ∙ ap (λ (z : List Counted). g.front ++ h.0 ∷ z) k.whole
-            ∙ sym (regroup language g.front h.0 k.front k.back);
-        first =
-            (h.0, k.front, at_token language ts h.0 h.1 h.2 g k.front, h.3, h.4, k.first);
-        second = k.second;
-      }
+      split_behind (Says w) is js ts h.0 h.1 h.2 (λ us vs k e. (h.0, us, e, h.3, h.4, k)) (split is js h.1 h.5)
   split (Name i ∷ is) js ts h =
-      let k = split is js h.1 h.5 in
-      let g = gap skipped ts in
-      record {
-        front = g.front ++ h.0 ∷ k.front;
-        back = k.back;
-        whole =
-            token_whole language ts h.0 h.1 h.2 g ∙ ap (λ (z : List Counted). g.front ++ h.0 ∷ z) k.whole
-            ∙ sym (regroup language g.front h.0 k.front k.back);
-        first =
-            (h.0, k.front, at_token language ts h.0 h.1 h.2 g k.front, h.3, h.4, k.first);
-        second = k.second;
-      }
+      split_behind (Name i) is js ts h.0 h.1 h.2 (λ us vs k e. (h.0, us, e, h.3, h.4, k)) (split is js h.1 h.5)
   split (Number n ∷ is) js ts h =
-      let k = split is js h.1 h.5 in
-      let g = gap skipped ts in
-      record {
-        front = g.front ++ h.0 ∷ k.front;
-        back = k.back;
-        whole =
-            token_whole language ts h.0 h.1 h.2 g ∙ ap (λ (z : List Counted). g.front ++ h.0 ∷ z) k.whole
-            ∙ sym (regroup language g.front h.0 k.front k.back);
-        first =
-            (h.0, k.front, at_token language ts h.0 h.1 h.2 g k.front, h.3, h.4, k.first);
-        second = k.second;
-      }
+      split_behind (Number n) is js ts h.0 h.1 h.2 (λ us vs k e. (h.0, us, e, h.3, h.4, k)) (split is js h.1 h.5)
 
   -- the word, and nothing behind it
   pub said_ink : (word : List ℕ) (us : List Counted) → AreInks L names (Says word ∷ []) us → IsSaid word us tt

@@ -1,6 +1,7 @@
 -- Printed claims and statements are spelled as they were, inside as many signs as they are printed with.
 -- Index: side_spelled, claim_spelled, block_spelled.
-use Rattle.std.proofs.Common.{◌≡◌, ◌≤◌, ℕ, zero, suc, Bool, true, false, cond, Some, List, [], ◌∷◌, ◌++◌, codes, Result, Ok, Err, refl, sym, ap, subst, ◌∙◌, append_assoc, arith}
+use Rattle.std.proofs.Common.{◌≡◌, ◌≤◌, ℕ, zero, suc, Bool, true, false, cond, Option, Some, None, List, [], ◌∷◌, ◌++◌, codes, Result, Ok, Err, refl, sym, ap, subst, ◌∙◌, append_assoc, arith}
+use Rattle.std.specs.Str.{bytes_eq}
 use Rattle.std.proofs.lemmas.List.{append-nil}
 use Rattle.trop_text.specs.Name.{is_name}
 use Rattle.trop_text.specs.declared.fault.FaultKind.{FaultKind}
@@ -21,7 +22,7 @@ use Rattle.prog_texts.specs.Words.{Counted, text, skipped, says, is_variable}
 use Rattle.prog_texts.specs.Judges.{passed, wanted, relation_of, goes_on, known, variable, is_one_too_many}
 use Rattle.prog_texts.specs.Shapes.{language}
 use Rattle.prog_texts.specs.Operands.{First, first, IsSaid, IsOperand}
-use Rattle.prog_texts.specs.Conditions.{Nowhere}
+use Rattle.prog_texts.specs.Conditions.{IsCondition, Nowhere}
 use Rattle.prog_texts.specs.Claims.{Single, Listed, side_of, side_start, AreTerms, IsSideRest, IsSide, IsClaim}
 use Rattle.prog_theory.specs.Blocks.{and_then}
 use Rattle.prog_texts.specs.Statements.{Verb, Havocs, Assumes, Asserts, Asks, Loops, Skips, Sets, one_more, verb, block_sign, IsBlock, IsStatementRest, AreStatements}
@@ -196,47 +197,21 @@ module _ (L : Limits) (rule : AssertRule) (names : List (List ℕ)) where
   counted : (t : Counted) (v : Result Verb FaultKind) → is_one_too_many L t ≡ false → one_more L t v ≡ Some v
   counted t v e = ap (λ z. Some (cond z (Err TooManyStatements) v)) e
 
-  is_havoc : (t : Counted) → says (codes "havoc") t ≡ true → is_one_too_many L t ≡ false →
-      verb L names t ≡ Some (Ok Havocs)
-  is_havoc t e k = takes (says (codes "havoc") t) _ _ e ∙ counted t (Ok Havocs) k
+  -- what a text is as the first token of a statement, where it is no name
+  abbrev verb_of_text : Counted → List ℕ → Option (Result Verb FaultKind)
+  verb_of_text t w =
+      cond (bytes_eq w (codes "havoc")) (one_more L t (Ok Havocs))
+      (cond (bytes_eq w (codes "assume")) (one_more L t (Ok Assumes))
+      (cond (bytes_eq w (codes "assert")) (one_more L t (Ok Asserts))
+      (cond (bytes_eq w (codes "if")) (one_more L t (Ok Asks))
+      (cond (bytes_eq w (codes "while")) (one_more L t (Ok Loops))
+      (cond (bytes_eq w (codes "skip")) (one_more L t (Ok Skips))
+      (cond (is_variable t) (one_more L t (passed Sets (known names t))) None))))))
 
-  is_assume : (t : Counted) → says (codes "assume") t ≡ true → is_one_too_many L t ≡ false →
-      verb L names t ≡ Some (Ok Assumes)
-  is_assume t e k = skips (says (codes "havoc") t) _ _ (other_word (codes "assume") (codes "havoc") t e refl)
-      ∙ takes (says (codes "assume") t) _ _ e ∙ counted t (Ok Assumes) k
-
-  is_assert : (t : Counted) → says (codes "assert") t ≡ true → is_one_too_many L t ≡ false →
-      verb L names t ≡ Some (Ok Asserts)
-  is_assert t e k =
-      skips (says (codes "havoc") t) _ _ (other_word (codes "assert") (codes "havoc") t e refl)
-      ∙ skips (says (codes "assume") t) _ _ (other_word (codes "assert") (codes "assume") t e refl)
-      ∙ takes (says (codes "assert") t) _ _ e ∙ counted t (Ok Asserts) k
-
-  is_if : (t : Counted) → says (codes "if") t ≡ true → is_one_too_many L t ≡ false → verb L names t ≡ Some (Ok Asks)
-  is_if t e k =
-      skips (says (codes "havoc") t) _ _ (other_word (codes "if") (codes "havoc") t e refl)
-      ∙ skips (says (codes "assume") t) _ _ (other_word (codes "if") (codes "assume") t e refl)
-      ∙ skips (says (codes "assert") t) _ _ (other_word (codes "if") (codes "assert") t e refl)
-      ∙ takes (says (codes "if") t) _ _ e ∙ counted t (Ok Asks) k
-
-  is_while : (t : Counted) → says (codes "while") t ≡ true → is_one_too_many L t ≡ false →
-      verb L names t ≡ Some (Ok Loops)
-  is_while t e k =
-      skips (says (codes "havoc") t) _ _ (other_word (codes "while") (codes "havoc") t e refl)
-      ∙ skips (says (codes "assume") t) _ _ (other_word (codes "while") (codes "assume") t e refl)
-      ∙ skips (says (codes "assert") t) _ _ (other_word (codes "while") (codes "assert") t e refl)
-      ∙ skips (says (codes "if") t) _ _ (other_word (codes "while") (codes "if") t e refl)
-      ∙ takes (says (codes "while") t) _ _ e ∙ counted t (Ok Loops) k
-
-  is_skip : (t : Counted) → says (codes "skip") t ≡ true → is_one_too_many L t ≡ false →
-      verb L names t ≡ Some (Ok Skips)
-  is_skip t e k =
-      skips (says (codes "havoc") t) _ _ (other_word (codes "skip") (codes "havoc") t e refl)
-      ∙ skips (says (codes "assume") t) _ _ (other_word (codes "skip") (codes "assume") t e refl)
-      ∙ skips (says (codes "assert") t) _ _ (other_word (codes "skip") (codes "assert") t e refl)
-      ∙ skips (says (codes "if") t) _ _ (other_word (codes "skip") (codes "if") t e refl)
-      ∙ skips (says (codes "while") t) _ _ (other_word (codes "skip") (codes "while") t e refl)
-      ∙ takes (says (codes "skip") t) _ _ e ∙ counted t (Ok Skips) k
+  -- the word of a verb
+  spoken : (word : List ℕ) (v : Verb) (t : Counted) → verb_of_text t word ≡ one_more L t (Ok v) →
+      says word t ≡ true → is_one_too_many L t ≡ false → verb L names t ≡ Some (Ok v)
+  spoken word v t is e k = ap (verb_of_text t) (text_is word t e) ∙ is ∙ counted t (Ok v) k
 
   is_set : (t : Counted) (i : ℕ) → is_variable t ≡ true → known names t ≡ Ok i → is_one_too_many L t ≡ false →
       verb L names t ≡ Some (Ok (Sets i))
@@ -353,97 +328,64 @@ module _ (L : Limits) (rule : AssertRule) (names : List (List ℕ)) where
   whole_block b d us h = statements_are d us b (subst
       (λ z. Many skipped (λ (xs : Block). verb L names) (IsStep d) tree.Empty us z) (joined-none b) h)
 
+  -- a statement, from its first token and the rest behind it
+  verb_at : (d : ℕ) (x : Stmt) (us : List Counted) (t : Counted) (vs : List Counted) (v : Verb) →
+      past skipped us ≡ t ∷ vs → verb L names t ≡ Some (Ok v) → IsRest d v vs x → IsVerb d x us
+  verb_at d x us t vs v e judged rest =
+      record { token = t; behind = vs; whole = e; word = v; judged = judged; rest = rest }
+
+  -- a condition, and what stands behind it
+  condition_then : {B : Type 0} {S : Cond → List Counted → B → Type 0} (c : Cond) (d : ℕ) (js : List Ink)
+      (us : List Counted) (y : B) → cond_nesting Loose c ≤ d → AreInks L names (cond_inks Loose c ++ js) us →
+      ((vs : List Counted) → AreInks L names js vs → S c vs y) → Then (IsCondition L names d) S us y
+  condition_then c d js us y le h more =
+      let k = split L names (cond_inks Loose c) js us h in
+      record {
+        front = k.front;
+        back = k.back;
+        value = c;
+        whole = k.whole;
+        first = condition_spelled L names c d k.front le k.first;
+        second = more k.back k.second;
+      }
+
   mutual
     stmt_spelled : (x : Stmt) (n d : ℕ) (us : List Counted) → SuitsStmt rule x → stmt_nesting x ≤ d →
         AreInks L names (stmt_inks n x) us → IsVerb d x us
-    stmt_spelled (Set i t) n d us s le h = record {
-      token = h.0;
-      behind = h.1;
-      whole = h.2;
-      word = Sets i;
-      judged = is_set h.0 i h.4.1 h.4.2 h.3.one;
-      rest = said_then L names (codes ":=") (Blank ∷ (term_inks t ++ Says (codes ";") ∷ Feed ∷ [])) h.1 (Set i t) h.5
-          (λ vs q. ended_spelled (λ y. Set i y) t (term_inks t) vs q (operand_spelled L names t));
-    }
-    stmt_spelled (Havoc i) n d us s le h = record {
-      token = h.0;
-      behind = h.1;
-      whole = h.2;
-      word = Havocs;
-      judged = is_havoc h.0 h.4.1 h.3.one;
-      rest = ended_spelled Havoc i (Name i ∷ []) h.1 h.5 (havoc_rest i);
-    }
-    stmt_spelled (Assume c) n d us s le h = record {
-      token = h.0;
-      behind = h.1;
-      whole = h.2;
-      word = Assumes;
-      judged = is_assume h.0 h.4.1 h.3.one;
-      rest = ended_spelled Assume c (cond_inks Loose c) h.1 h.5 (λ vs q. condition_spelled L names c d vs le q);
-    }
-    stmt_spelled (Assert c) n d us s le h = record {
-      token = h.0;
-      behind = h.1;
-      whole = h.2;
-      word = Asserts;
-      judged = is_assert h.0 h.4.1 h.3.one;
-      rest = ended_spelled Assert c (claim_inks c) h.1 h.5 (λ vs q. claim_spelled c vs s.0 s.1 q);
-    }
-    stmt_spelled Skip n d us s le h = record {
-      token = h.0;
-      behind = h.1;
-      whole = h.2;
-      word = Skips;
-      judged = is_skip h.0 h.4.1 h.3.one;
-      rest = said_then L names (codes ";") (Feed ∷ []) h.1 Skip h.5 (λ vs q. the_empty Skip vs q);
-    }
+    stmt_spelled (Set i t) n d us s le h = verb_at d (Set i t) us h.0 h.1 (Sets i) h.2
+        (is_set h.0 i h.4.1 h.4.2 h.3.one)
+        (said_then L names (codes ":=") (Blank ∷ (term_inks t ++ Says (codes ";") ∷ Feed ∷ [])) h.1 (Set i t) h.5
+        (λ vs q. ended_spelled (λ y. Set i y) t (term_inks t) vs q (operand_spelled L names t)))
+    stmt_spelled (Havoc i) n d us s le h = verb_at d (Havoc i) us h.0 h.1 Havocs h.2
+        (spoken (codes "havoc") Havocs h.0 refl h.4.1 h.3.one)
+        (ended_spelled Havoc i (Name i ∷ []) h.1 h.5 (havoc_rest i))
+    stmt_spelled (Assume c) n d us s le h = verb_at d (Assume c) us h.0 h.1 Assumes h.2
+        (spoken (codes "assume") Assumes h.0 refl h.4.1 h.3.one)
+        (ended_spelled Assume c (cond_inks Loose c) h.1 h.5 (λ vs q. condition_spelled L names c d vs le q))
+    stmt_spelled (Assert c) n d us s le h = verb_at d (Assert c) us h.0 h.1 Asserts h.2
+        (spoken (codes "assert") Asserts h.0 refl h.4.1 h.3.one)
+        (ended_spelled Assert c (claim_inks c) h.1 h.5 (λ vs q. claim_spelled c vs s.0 s.1 q))
+    stmt_spelled Skip n d us s le h = verb_at d Skip us h.0 h.1 Skips h.2
+        (spoken (codes "skip") Skips h.0 refl h.4.1 h.3.one)
+        (said_then L names (codes ";") (Feed ∷ []) h.1 Skip h.5 (λ vs q. the_empty Skip vs q))
     stmt_spelled (If c a b) n zero us s le h = absurd (omega arith)
     stmt_spelled (If c a b) n (suc d) us s le h =
-        let k = split L names (cond_inks Loose c) (Blank ∷ Says (codes "{") ∷ Feed ∷
-        (block_inks (suc n) a ++ (else_inks n b (block_inks (suc n) b) ++ (indent n ++ closing)))) h.1 h.5 in
-        let le0 : cond_nesting Loose c ≤ suc d = omega arith in
         let le1 : block_nesting a ≤ d = omega arith in
         let le2 : block_nesting b ≤ d = omega arith in
-        record {
-          token = h.0;
-          behind = h.1;
-          whole = h.2;
-          word = Asks;
-          judged = is_if h.0 h.4.1 h.3.one;
-          rest = record {
-            front = k.front;
-            back = k.back;
-            value = c;
-            whole = k.whole;
-            first = condition_spelled L names c (suc d) k.front le0 k.first;
-            second = if_rest n d c a b k.back (λ vs q.
-                whole_block a d vs (many_spelled a (suc n) d tree.Empty vs s.0 le1 q))
-                (λ vs q. whole_block b d vs (many_spelled b (suc n) d tree.Empty vs s.1 le2 q)) k.second;
-          };
-        }
+        verb_at (suc d) (If c a b) us h.0 h.1 Asks h.2 (spoken (codes "if") Asks h.0 refl h.4.1 h.3.one)
+        (condition_then c (suc d) (Blank ∷ Says (codes "{") ∷ Feed ∷
+        (block_inks (suc n) a ++ (else_inks n b (block_inks (suc n) b) ++ (indent n ++ closing)))) h.1 (If c a b)
+        (omega arith) h.5 (λ ws q. if_rest n d c a b ws
+        (λ vs q. whole_block a d vs (many_spelled a (suc n) d tree.Empty vs s.0 le1 q))
+        (λ vs q. whole_block b d vs (many_spelled b (suc n) d tree.Empty vs s.1 le2 q)) q))
     stmt_spelled (While c a) n zero us s le h = absurd (omega arith)
     stmt_spelled (While c a) n (suc d) us s le h =
-        let k = split L names (cond_inks Loose c) (Blank ∷ Says (codes "{") ∷ Feed ∷
-        (block_inks (suc n) a ++ (indent n ++ closing))) h.1 h.5 in
-        let le0 : cond_nesting Loose c ≤ suc d = omega arith in
         let le1 : block_nesting a ≤ d = omega arith in
-        record {
-          token = h.0;
-          behind = h.1;
-          whole = h.2;
-          word = Loops;
-          judged = is_while h.0 h.4.1 h.3.one;
-          rest = record {
-            front = k.front;
-            back = k.back;
-            value = c;
-            whole = k.whole;
-            first = condition_spelled L names c (suc d) k.front le0 k.first;
-            second = brace_then n (suc n) d a (Feed ∷ []) k.back (While c a)
-                (λ vs q. whole_block a d vs (many_spelled a (suc n) d tree.Empty vs s le1 q)) k.second
-                (λ vs q. the_empty (While c a) vs q);
-          };
-        }
+        verb_at (suc d) (While c a) us h.0 h.1 Loops h.2 (spoken (codes "while") Loops h.0 refl h.4.1 h.3.one)
+        (condition_then c (suc d) (Blank ∷ Says (codes "{") ∷ Feed ∷ (block_inks (suc n) a ++ (indent n ++ closing)))
+        h.1 (While c a) (omega arith) h.5 (λ ws q. brace_then n (suc n) d a (Feed ∷ []) ws (While c a)
+        (λ vs q. whole_block a d vs (many_spelled a (suc n) d tree.Empty vs s le1 q)) q
+        (λ vs q. the_empty (While c a) vs q)))
 
     many_spelled : (b : Block) (n d : ℕ) (xs : Block) (us : List Counted) → SuitsBlock rule b → block_nesting b ≤ d →
         AreInks L names (block_inks n b) us → Many skipped (λ (xs : Block). verb L names) (IsStep d) xs us (joined xs b)

@@ -176,20 +176,14 @@ tally_more L b c d us k m h r =
     let i2 = i.atoms in
     record { statements = omega (arith, h0, i0); few = h1; atoms = omega (arith, h2, i2); scarce = h3 }
 
+pub tally_as : (L : Limits) (b d : Before) (k k' m m' : ℕ) → k ≡ k' → m ≡ m' → IsTally L b d k m → IsTally L b d k' m'
+tally_as L b d k k' m m' e q h = subst (λ z. IsTally L b d z m') e (subst (λ z. IsTally L b d k z) q h)
+
 -- a token in front
 pub tally_token : (L : Limits) (t : Counted) (d : Before) (k m : ℕ) → IsTally L (behind t) d k m →
     IsTally L t.before d k m
-tally_token L t d k m h =
-    let i = token_grows L t in
-    let h0 = h.statements in let h1 = h.few in let h2 = h.atoms in let h3 = h.scarce in let i0 = i.statements in
-    let i2 = i.atoms in
-    record {
-      statements = omega (arith, h0, i0);
-      few = omega (arith, h0, h1, i0);
-      atoms =
-          omega (arith, h2, i2);
-      scarce = omega (arith, h2, h3, i2);
-    }
+tally_token L t d k m h = tally_as L t.before d (0 + k) k (0 + m) m (omega arith) (omega arith)
+    (tally_then L t.before (behind t) d 0 0 k m (token_grows L t) h)
 
 and_right : (p q : Bool) → p ≡ true → (p && q) ≡ false → q ≡ false
 and_right true q e h = h

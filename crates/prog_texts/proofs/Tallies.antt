@@ -24,7 +24,8 @@ use Rattle.prog_texts.specs.Operands.{First, first, IsSaid}
 use Rattle.prog_texts.specs.Conditions.{Start, Bang, Bracket, Ask, Compare, opening, start, IsChain, IsConditionOf, IsNegationRest, IsNegation, IsCondition, Nowhere}
 use Rattle.prog_texts.specs.Programs.{IsProgram}
 use Rattle.prog_texts.specs.Statements.{Verb, Havocs, Assumes, Asserts, Asks, Loops, Skips, Sets, verb, block_sign, IsBlock, IsStatementRest, AreStatements}
-use Rattle.prog_texts.proofs.Runs.{IsRun, front_of, run_split, run_past, IsTally, tally_then, tally_none, tally_token, tally_more, tally_statement, tally_atom, IsFresh, IsAsking, fresh_word, asking_word, asking_bracket, atom_begins}
+use Rattle.prog_texts.proofs.Judged.{IsBegin, begin_is, IsVerb, verb_is}
+use Rattle.prog_texts.proofs.Runs.{IsRun, front_of, run_split, run_past, IsTally, tally_then, tally_none, tally_token, tally_more, tally_as, tally_statement, tally_atom, IsFresh, IsAsking, fresh_word, asking_word, asking_bracket, atom_begins}
 
 -- ---- single tokens
 
@@ -48,64 +49,6 @@ link_says word t u e = at (says word t) refl e
     at : (z : Bool) → says word t ≡ z → linked z ≡ Some (Ok u) → says word t ≡ true
     at true k q = k
     at false k q = absurd cc
-
--- ---- what was judged
-
-record IsBegin (a b c d : Bool) (many : Bool) (s : Start) : Type 0 where
-  bang : s ≡ Bang → a ≡ true
-  bracket : s ≡ Bracket → b ≡ true
-  atom : (s ≡ Bang → ⊥) → (s ≡ Bracket → ⊥) → ((c || d) ≡ true) × (many ≡ false)
-
-begin_is : (a b c d room many : Bool) (v : Result First FaultKind) (s : Start) →
-    cond a (opening room Bang) (cond b (opening room Bracket)
-    (cond c (cond many (Err TooManyAtoms) (Ok Ask))
-    (cond d (cond many (Err TooManyAtoms) (passed Compare v)) (Err Syntax)))) ≡ Ok s → IsBegin a b c d many s
-begin_is true b c d true many v s e = let k : Bang ≡ s = cc in
-    record {
-      bang = λ q. refl;
-      bracket = λ q. absurd (let z : Bang ≡ Bracket = k ∙ q in cc);
-      atom =
-          λ p q. absurd (p (sym k));
-    }
-begin_is true b c d false many v s e = absurd cc
-begin_is false true c d true many v s e = let k : Bracket ≡ s = cc in
-    record {
-      bang = λ q. absurd (let z : Bracket ≡ Bang = k ∙ q in cc);
-      bracket = λ q. refl;
-      atom =
-          λ p q. absurd (q (sym k));
-    }
-begin_is false true c d false many v s e = absurd cc
-begin_is false false true d room true v s e = absurd cc
-begin_is false false true d room false v s e = let k : Ask ≡ s = cc in
-    record {
-      bang = λ q. absurd (let z : Ask ≡ Bang = k ∙ q in cc);
-      bracket =
-          λ q. absurd (let z : Ask ≡ Bracket = k ∙ q in cc);
-      atom = λ p q. (refl, refl);
-    }
-begin_is false false false true room true v s e = absurd cc
-begin_is false false false true room false (Ok f) s e = let k : Compare f ≡ s = cc in
-    record {
-      bang = λ q. absurd (let z : Compare f ≡ Bang = k ∙ q in cc);
-      bracket =
-          λ q. absurd (let z : Compare f ≡ Bracket = k ∙ q in cc);
-      atom = λ p q. (refl, refl);
-    }
-begin_is false false false true room false (Err w) s e = absurd cc
-begin_is false false false false room many v s e = absurd cc
-
-no_bang_ask : Ask ≡ Bang → ⊥
-no_bang_ask e = cc
-
-no_bracket_ask : Ask ≡ Bracket → ⊥
-no_bracket_ask e = cc
-
-no_bang_compare : (f : First) → Compare f ≡ Bang → ⊥
-no_bang_compare f e = cc
-
-no_bracket_compare : (f : First) → Compare f ≡ Bracket → ⊥
-no_bracket_compare f e = cc
 
 -- ---- conditions
 
@@ -167,10 +110,10 @@ module _ (L : Limits) (names : List (List ℕ)) where
 
       at : (s : Start) (us : List Counted) (c : Cond) → start L names room t ≡ Ok s → IsRun (behind t) us d →
           IsNegationRest L names Inner s us c → IsBegin (says (codes "!") t) (says (codes "(") t) (says (codes "?") t)
-          (begins_operand t) (is_atom_too_many L t) s → IsTally L t.before d 0 (cond_atoms c)
+          (begins_operand t) (is_atom_too_many L t) (first L names t) s → IsTally L t.before d 0 (cond_atoms c)
       at Bang us c e r h k =
           let p = parted (behind t) d us h.front h.back h.whole r in
-          let one = part (behind t) p.0 h.front h.value (asking_word (codes "!") t (k.bang refl) refl refl refl) p.1
+          let one = part (behind t) p.0 h.front h.value (asking_word (codes "!") t k.told refl refl refl) p.1
           h.first in
           let all = tally_more L t.before p.0 d h.back 0 (cond_atoms h.value)
           (tally_token L t p.0 0 (cond_atoms h.value) one) p.2 in
@@ -178,14 +121,14 @@ module _ (L : Limits) (names : List (List ℕ)) where
       at Bracket us c e r h k =
           let p = parted (behind t) d us h.front h.back h.whole r in
           let one = condition_tally Inner part (behind t) p.0 h.front h.value
-          (asking_bracket t (k.bracket refl) asking) p.1 h.first in
+          (asking_bracket t k.told asking) p.1 h.first in
           let all = tally_more L t.before p.0 d h.back 0 (cond_atoms h.value)
           (tally_token L t p.0 0 (cond_atoms h.value) one) p.2 in
           subst (λ z. IsTally L t.before d 0 (cond_atoms z)) (sym h.second.second.is) all
       at Ask us c e r h k = subst (λ z. IsTally L t.before d 0 (cond_atoms z)) (sym h.is)
-          (atom us r (k.atom no_bang_ask no_bracket_ask))
+          (atom us r k.atom)
       at (Compare f) us c e r h k = subst (λ z. IsTally L t.before d 0 (cond_atoms z)) (sym h.second.second.second.is)
-          (atom us r (k.atom (no_bang_compare f) (no_bracket_compare f)))
+          (atom us r k.atom)
 
   -- a part behind its first token
   pub first_run : (b d : Before) (us front back : List Counted) (t : Counted) → us ≡ front ++ back →
@@ -210,99 +153,6 @@ module _ (L : Limits) (names : List (List ℕ)) where
   negation_tally (suc n) = begun_tally (IsNegation L names n) (negation_tally n) true
 
 -- ---- statements
-
-no_verb_both : (z : Bool) → z ≡ true → z ≡ false → ⊥
-no_verb_both z e k = let h = sym e ∙ k in cc
-
--- what the first token of a statement is
-record IsVerb (a b c d e f g many : Bool) (v : Verb) : Type 0 where
-  allowed : many ≡ false
-  some : (a || b || c || d || e || f || g) ≡ true
-  assumes : v ≡ Assumes → b ≡ true
-  asks : v ≡ Asks → d ≡ true
-  loops : v ≡ Loops → e ≡ true
-
-verb_is : (a b c d e f g m : Bool) (w : Result ℕ FaultKind) (v : Verb)
-    → cond a (Some (cond m (Err TooManyStatements) (Ok Havocs)))
-    (cond b (Some (cond m (Err TooManyStatements) (Ok Assumes)))
-    (cond c (Some (cond m (Err TooManyStatements) (Ok Asserts)))
-    (cond d (Some (cond m (Err TooManyStatements) (Ok Asks)))
-    (cond e (Some (cond m (Err TooManyStatements) (Ok Loops)))
-    (cond f (Some (cond m (Err TooManyStatements) (Ok Skips)))
-    (cond g (Some (cond m (Err TooManyStatements) (passed Sets w))) None)))))) ≡ Some (Ok v) →
-    IsVerb a b c d e f g m v
-verb_is true b c d e f g true w v h = absurd cc
-verb_is true b c d e f g false w v h = let k : Havocs ≡ v = cc in
-    record {
-      allowed = refl;
-      some = refl;
-      assumes = λ q. absurd (let z : Havocs ≡ Assumes = k ∙ q in cc);
-      asks =
-          λ q. absurd (let z : Havocs ≡ Asks = k ∙ q in cc);
-      loops = λ q. absurd (let z : Havocs ≡ Loops = k ∙ q in cc);
-    }
-verb_is false true c d e f g true w v h = absurd cc
-verb_is false true c d e f g false w v h = let k : Assumes ≡ v = cc in
-    record {
-      allowed = refl;
-      some = refl;
-      assumes = λ q. refl;
-      asks =
-          λ q. absurd (let z : Assumes ≡ Asks = k ∙ q in cc);
-      loops = λ q. absurd (let z : Assumes ≡ Loops = k ∙ q in cc);
-    }
-verb_is false false true d e f g true w v h = absurd cc
-verb_is false false true d e f g false w v h = let k : Asserts ≡ v = cc in
-    record {
-      allowed = refl;
-      some = refl;
-      assumes = λ q. absurd (let z : Asserts ≡ Assumes = k ∙ q in cc);
-      asks =
-          λ q. absurd (let z : Asserts ≡ Asks = k ∙ q in cc);
-      loops = λ q. absurd (let z : Asserts ≡ Loops = k ∙ q in cc);
-    }
-verb_is false false false true e f g true w v h = absurd cc
-verb_is false false false true e f g false w v h = let k : Asks ≡ v = cc in
-    record {
-      allowed = refl;
-      some = refl;
-      assumes = λ q. absurd (let z : Asks ≡ Assumes = k ∙ q in cc);
-      asks =
-          λ q. refl;
-      loops = λ q. absurd (let z : Asks ≡ Loops = k ∙ q in cc);
-    }
-verb_is false false false false true f g true w v h = absurd cc
-verb_is false false false false true f g false w v h = let k : Loops ≡ v = cc in
-    record {
-      allowed = refl;
-      some = refl;
-      assumes = λ q. absurd (let z : Loops ≡ Assumes = k ∙ q in cc);
-      asks =
-          λ q. absurd (let z : Loops ≡ Asks = k ∙ q in cc);
-      loops = λ q. refl;
-    }
-verb_is false false false false false true g true w v h = absurd cc
-verb_is false false false false false true g false w v h = let k : Skips ≡ v = cc in
-    record {
-      allowed = refl;
-      some = refl;
-      assumes = λ q. absurd (let z : Skips ≡ Assumes = k ∙ q in cc);
-      asks =
-          λ q. absurd (let z : Skips ≡ Asks = k ∙ q in cc);
-      loops = λ q. absurd (let z : Skips ≡ Loops = k ∙ q in cc);
-    }
-verb_is false false false false false false true true w v h = absurd cc
-verb_is false false false false false false true false (Ok i) v h = let k : Sets i ≡ v = cc in
-    record {
-      allowed = refl;
-      some = refl;
-      assumes = λ q. absurd (let z : Sets i ≡ Assumes = k ∙ q in cc);
-      asks =
-          λ q. absurd (let z : Sets i ≡ Asks = k ∙ q in cc);
-      loops = λ q. absurd (let z : Sets i ≡ Loops = k ∙ q in cc);
-    }
-verb_is false false false false false false true false (Err what) v h = absurd cc
-verb_is false false false false false false false m w v h = absurd cc
 
 begins_it : (a b c d e f g fresh : Bool) → (a || b || c || d || e || f || g) ≡ true → fresh ≡ true →
     (a || b || c || d || e || f || g && fresh) ≡ true
@@ -331,9 +181,6 @@ module _ (L : Limits) (rule : AssertRule) (names : List (List ℕ)) where
   record IsStatement (b d : Before) (x : Stmt) : Type 0 where
     tally : IsTally L b d (count x) (stmt_atoms x)
     fresh : IsFresh d
-
-  tally_as : (b d : Before) (k k' m m' : ℕ) → k ≡ k' → m ≡ m' → IsTally L b d k m → IsTally L b d k' m'
-  tally_as b d k k' m m' e q h = subst (λ z. IsTally L b d z m') e (subst (λ z. IsTally L b d k z) q h)
 
   counts_and_then : (xs : Block) (x : Stmt) → counts (and_then xs x) ≡ counts xs + count x
   counts_and_then tree.Empty x = omega arith
@@ -400,11 +247,23 @@ module _ (L : Limits) (rule : AssertRule) (names : List (List ℕ)) where
       plain b d us t h r = tally_more L b (behind t) d us 1 0 h r
 
       abbrev IsIt : Counted → Verb → Type 0
-      IsIt t v = IsVerb (says (codes "havoc") t) (says (codes "assume") t) (says (codes "assert") t) (says (codes "if") t)
-          (says (codes "while") t) (says (codes "skip") t) (is_variable t) (is_one_too_many L t) v
+      IsIt t v = IsVerb (says (codes "havoc") t) (says (codes "assume") t) (says (codes "assert") t)
+          (says (codes "if") t)
+          (says (codes "while") t) (says (codes "skip") t) (is_variable t) (is_one_too_many L t) (known names t) v
 
       abbrev Count : Before → Before → Stmt → Type 0
       Count b d z = IsTally L b d (count z) (stmt_atoms z)
+
+      -- what was counted of a statement is what there is to count of it
+      statement_is : (b d : Before) (z x : Stmt) → x ≡ z → Count b d z → IsFresh d → IsStatement b d x
+      statement_is b d z x e tally fresh = record { tally = subst (Count b d) (sym e) tally; fresh = fresh }
+
+      -- a condition and a block were counted, and a statement may follow
+      record IsBranch (b d : Before) (c : Cond) (x : Block) (back : List Counted) : Type 0 where
+        end : Before
+        tally : IsTally L b end (1 + counts x) (cond_atoms c + block_atoms x)
+        fresh : IsFresh end
+        run : IsRun end back d
 
       rest_statement : (n : ℕ) (t : Counted) (d : Before) (v : Verb) (us : List Counted) (x : Stmt) → IsFresh t.before →
           verb L names t ≡ Some (Ok v) → IsRun (behind t) us d → IsStatementRest L rule names n room Inner v us x →
@@ -420,7 +279,7 @@ module _ (L : Limits) (rule : AssertRule) (names : List (List ℕ)) where
           with_condition word us c m says some asks other one r h =
               let two = condition_tally L names (IsNegation L names n) (negation_tally L names n) (behind t) m us c
               (asking_word word t says some asks other) r h in
-              tally_as t.before m (1 + 0) 1 (0 + cond_atoms c) (cond_atoms c) (omega arith) (omega arith)
+              tally_as L t.before m (1 + 0) 1 (0 + cond_atoms c) (cond_atoms c) (omega arith) (omega arith)
               (tally_then L t.before (behind t) m 1 0 0 (cond_atoms c) one two)
 
           first_one : (v : Verb) → IsIt t v → IsTally L t.before (behind t) 1 0
@@ -428,85 +287,74 @@ module _ (L : Limits) (rule : AssertRule) (names : List (List ℕ)) where
               (says (codes "assert") t) (says (codes "if") t) (says (codes "while") t) (says (codes "skip") t)
               (is_variable t) (is_fresh t.before.last) k.some fresh) k.allowed
 
+          -- a condition and a block behind it
+          branch : {S : Cond → Block → List Counted → Stmt → Type 0} (word : List ℕ) (us : List Counted) (x : Stmt)
+              (h : Then (IsCondition L names n) (λ c. Then (IsBlock room Inner) (S c)) us x) → says word t ≡ true →
+              bytes_eq [] word ≡ false → is_asking word ≡ true → bytes_eq word (codes "(") ≡ false →
+              IsTally L t.before (behind t) 1 0 → IsRun (behind t) us d →
+              IsBranch t.before d h.value h.second.value h.second.back
+          branch word us x h said some asks other first r =
+              let p = parted L names (behind t) d us h.front h.back h.whole r in
+              let c = with_condition word h.front h.value p.0 said some asks other first p.1 h.first in
+              let m = h.second in
+              let q = parted L names p.0 d h.back m.front m.back m.whole p.2 in
+              let a = block_tally p.0 q.0 m.front m.value q.1 m.first in
+              record {
+                end = q.0;
+                tally = tally_then L t.before p.0 q.0 1 (cond_atoms h.value) (counts m.value)
+                    (block_atoms m.value) c a.tally;
+                fresh = a.fresh;
+                run = q.2;
+              }
+
           at : (v : Verb) (us : List Counted) (x : Stmt) → IsRun (behind t) us d →
               IsStatementRest L rule names n room Inner v us x → IsIt t v → IsStatement t.before d x
           at Havocs us x r h k =
               let p = parted L names (behind t) d us h.front h.back h.whole r in
-              record {
-                tally = subst (Count t.before d) (sym h.second.second.is)
-                    (plain t.before d us t (first_one Havocs k) r);
-                fresh =
-                    last_said (codes ";") (tree.Havoc h.value) x p.0 d h.back refl refl p.2 h.second;
-              }
-          at Assumes us x r h k =
-              let p = parted L names (behind t) d us h.front h.back h.whole r in
-              let c = with_condition (codes "assume") h.front h.value p.0 (k.assumes refl) refl refl refl
-              (first_one Assumes k) p.1 h.first in
-              record {
-                tally = subst (Count t.before d) (sym h.second.second.is)
-                    (tally_more L t.before p.0 d h.back 1 (cond_atoms h.value) c p.2);
-                fresh =
-                    last_said (codes ";") (tree.Assume h.value) x p.0 d h.back refl refl p.2 h.second;
-              }
+              statement_is t.before d (tree.Havoc h.value) x h.second.second.is
+              (plain t.before d us t (first_one Havocs k) r)
+              (last_said (codes ";") (tree.Havoc h.value) x p.0 d h.back refl refl p.2 h.second)
           at Asserts us x r h k =
               let p = parted L names (behind t) d us h.front h.back h.whole r in
-              record {
-                tally = subst (Count t.before d) (sym h.second.second.is)
-                    (plain t.before d us t (first_one Asserts k) r);
-                fresh =
-                    last_said (codes ";") (tree.Assert h.value) x p.0 d h.back refl refl p.2 h.second;
-              }
+              statement_is t.before d (tree.Assert h.value) x h.second.second.is
+              (plain t.before d us t (first_one Asserts k) r)
+              (last_said (codes ";") (tree.Assert h.value) x p.0 d h.back refl refl p.2 h.second)
+          at Skips us x r h k = statement_is t.before d tree.Skip x h.second.is
+              (plain t.before d us t (first_one Skips k) r)
+              (last_said (codes ";") tree.Skip x (behind t) d us refl refl r h)
+          at Assumes us x r h k =
+              let p = parted L names (behind t) d us h.front h.back h.whole r in
+              let c = with_condition (codes "assume") h.front h.value p.0 k.told refl refl refl
+              (first_one Assumes k) p.1 h.first in
+              statement_is t.before d (tree.Assume h.value) x h.second.second.is
+              (tally_more L t.before p.0 d h.back 1 (cond_atoms h.value) c p.2)
+              (last_said (codes ";") (tree.Assume h.value) x p.0 d h.back refl refl p.2 h.second)
           at Asks us x r h k =
-              let p = parted L names (behind t) d us h.front h.back h.whole r in
-              let c = with_condition (codes "if") h.front h.value p.0 (k.asks refl) refl refl refl
-              (first_one Asks k) p.1 h.first in
+              let a = branch (codes "if") us x h k.told refl refl refl (first_one Asks k) r in
               let m = h.second in
-              let q = parted L names p.0 d h.back m.front m.back m.whole p.2 in
-              let a = block_tally p.0 q.0 m.front m.value q.1 m.first in
               let n = m.second in
-              let s = parted L names q.0 d m.back n.front n.back n.whole q.2 in
-              let b = else_tally q.0 s.0 n.front n.value a.fresh s.1 n.first in
-              let one = tally_then L t.before p.0 q.0 1 (cond_atoms h.value) (counts m.value)
-              (block_atoms m.value) c a.tally in
-              let two = tally_then L t.before q.0 s.0 (1 + counts m.value) (cond_atoms h.value + block_atoms m.value)
-              (counts n.value) (block_atoms n.value) one b.tally in
-              record {
-                tally = subst (Count t.before d) (sym n.second.is)
-                    (tally_more L t.before s.0 d n.back (1 + counts m.value + counts n.value)
-                    (cond_atoms h.value + block_atoms m.value + block_atoms n.value) two s.2);
-                fresh = subst (λ (z : Before). IsFresh z) (sym (ended s.0 d n.back n.second.none s.2)) b.fresh;
-              }
+              let s = parted L names a.end d m.back n.front n.back n.whole a.run in
+              let b = else_tally a.end s.0 n.front n.value a.fresh s.1 n.first in
+              let all = tally_then L t.before a.end s.0 (1 + counts m.value) (cond_atoms h.value + block_atoms m.value)
+              (counts n.value) (block_atoms n.value) a.tally b.tally in
+              statement_is t.before d (tree.If h.value m.value n.value) x n.second.is
+              (tally_more L t.before s.0 d n.back (1 + counts m.value + counts n.value)
+              (cond_atoms h.value + block_atoms m.value + block_atoms n.value) all s.2)
+              (subst (λ (z : Before). IsFresh z) (sym (ended s.0 d n.back n.second.none s.2)) b.fresh)
           at Loops us x r h k =
-              let p = parted L names (behind t) d us h.front h.back h.whole r in
-              let c = with_condition (codes "while") h.front h.value p.0 (k.loops refl) refl refl refl
-              (first_one Loops k) p.1 h.first in
+              let a = branch (codes "while") us x h k.told refl refl refl (first_one Loops k) r in
               let m = h.second in
-              let q = parted L names p.0 d h.back m.front m.back m.whole p.2 in
-              let a = block_tally p.0 q.0 m.front m.value q.1 m.first in
-              let one = tally_then L t.before p.0 q.0 1 (cond_atoms h.value) (counts m.value)
-              (block_atoms m.value) c a.tally in
-              record {
-                tally = subst (Count t.before d) (sym m.second.is)
-                    (tally_more L t.before q.0 d m.back (1 + counts m.value)
-                    (cond_atoms h.value + block_atoms m.value) one q.2);
-                fresh = subst (λ (z : Before). IsFresh z) (sym (ended q.0 d m.back m.second.none q.2)) a.fresh;
-              }
-          at Skips us x r h k = record {
-            tally = subst (Count t.before d) (sym h.second.is)
-                (plain t.before d us t (first_one Skips k) r);
-            fresh =
-                last_said (codes ";") tree.Skip x (behind t) d us refl refl r h;
-          }
+              statement_is t.before d (tree.While h.value m.value) x m.second.is
+              (tally_more L t.before a.end d m.back (1 + counts m.value) (cond_atoms h.value + block_atoms m.value)
+              a.tally a.run)
+              (subst (λ (z : Before). IsFresh z) (sym (ended a.end d m.back m.second.none a.run)) a.fresh)
           at (Sets i) us x r h k =
               let p = parted L names (behind t) d us h.front h.back h.whole r in
               let m = h.second in
               let q = parted L names p.0 d h.back m.front m.back m.whole p.2 in
-              record {
-                tally = subst (Count t.before d) (sym m.second.second.is)
-                    (plain t.before d us t (first_one (Sets i) k) r);
-                fresh =
-                    last_said (codes ";") (tree.Set i m.value) x q.0 d m.back refl refl q.2 m.second;
-              }
+              statement_is t.before d (tree.Set i m.value) x m.second.second.is
+              (plain t.before d us t (first_one (Sets i) k) r)
+              (last_said (codes ";") (tree.Set i m.value) x q.0 d m.back refl refl q.2 m.second)
 
       abbrev Step : ℕ → Block → Verb → List Counted → Block → Type 0
       Step n xs v = Then (IsStatementRest L rule names n room Inner v) (λ x. Empty (and_then xs x))
@@ -534,7 +382,7 @@ module _ (L : Limits) (rule : AssertRule) (names : List (List ℕ)) where
           sym (counts_and_then xs k.value) ∙ ap counts (sym k.second.is) in
           let same_m : block_atoms xs + stmt_atoms k.value ≡ block_atoms z =
           sym (atoms_and_then xs k.value) ∙ ap block_atoms (sym k.second.is) in
-          let grown = tally_as b p.0 (counts xs + count k.value) (counts z) (block_atoms xs + stmt_atoms k.value)
+          let grown = tally_as L b p.0 (counts xs + count k.value) (counts z) (block_atoms xs + stmt_atoms k.value)
           (block_atoms z) same_k same_m both in
           more n b s.0 d z zs ys (tally_more L b p.0 s.0 k.back (counts z) (block_atoms z) grown p.2)
           (subst (λ (z : Before). IsFresh z) (sym (ended p.0 s.0 k.back k.second.none p.2)) one.fresh) s.2 m

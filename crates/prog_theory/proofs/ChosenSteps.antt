@@ -1,4 +1,5 @@
 -- Each configuration of the chosen run follows the last by a step.
+-- Index: look_can, picked_step, run_head, run_steps, chosen_steps.
 use Rattle.std.proofs.Common.{◌≡◌, ℕ, zero, suc, ◌+◌, ◌⊎◌, inl, inr, ⊎_elim, ℤ, ◌≤ℤ◌, ◌<ℤ◌, int_lt, int_le, ◌&&◌, not, Bool, true, false, List, [], ◌∷◌, ◌++◌, Option, Some, None, refl, sym, ap, subst, T, arith}
 use Rattle.std.proofs.lemmas.Int.{ints}
 use Rattle.std.specs.Int.Signed.{lt_z, le_z, lt_z_yes, le_z_yes}
@@ -46,7 +47,8 @@ compares_says Lt x y = lt_says x y
 compares_says Ge x y = le_says y x
 compares_says Gt x y = lt_says y x
 compares_says Eq x y = same_says (int_le x y) (int_le y x) x y (le_says x y) (le_says y x)
-compares_says Ne x y = not_says (int_le x y && int_le y x) (x ≡ y) (same_says (int_le x y) (int_le y x) x y (le_says x y) (le_says y x))
+compares_says Ne x y = not_says (int_le x y && int_le y x) (x ≡ y)
+    (same_says (int_le x y) (int_le y x) x y (le_says x y) (le_says y x))
 
 module _ (s : State) where
   atom_can : (b : Bool) (l r : _) (c : Cmp) → Says b (Compares c (value l s) (value r s)) → CanBe (Atom l c r) s b
@@ -67,49 +69,46 @@ module _ (s : State) where
       go true h = h
       go false h = h
 
-  -- what a look sees, the condition can be
-  and_can : (a b : Cond) (o : Option Look) (right : List ℤ → Option Look) (k : Look)
-      → ((l : Look) → o ≡ Some l → CanBe a s l.truth)
-      → ((cs : List ℤ) (l : Look) → right cs ≡ Some l → CanBe b s l.truth) → look_second true o right ≡ Some k
-      → CanBe (And a b) s k.truth
-  and_can a b None right k h g e = cc
-  and_can a b (Some l) right k h g e = go l.truth (h l refl) e
+  -- What a look sees, a condition J of two parts A and B can be: the first part stops the look with one truth value,
+  -- and with the other one the second part decides.
+  both_can : (on : Bool) (A B J : Bool → Type 0) → (A (not on) → J (not on)) → ((t : Bool) → A on → B t → J t)
+      → (o : Option Look) (right : List ℤ → Option Look) (k : Look) → ((l : Look) → o ≡ Some l → A l.truth)
+      → ((cs : List ℤ) (l : Look) → right cs ≡ Some l → B l.truth) → look_second on o right ≡ Some k → J k.truth
+  both_can on A B J stops goes None right k h g e = cc
+  both_can on A B J stops goes (Some l) right k h g e = go on l.truth stops goes (h l refl) e
     where
-      both : (t : Bool) → CanBe a s true → CanBe b s t → CanBe (And a b) s t
-      both true x y = (x, y)
-      both false x y = inr y
+      seen : (t : Bool) → Some (record { truth = t; left = l.left }) ≡ Some k → t ≡ k.truth
+      seen t e = ap (λ (x : Option Look). elim x [ None ↦ false | Some y ↦ y.truth ]) e
 
-      go : (t : Bool) → CanBe a s t → look_on true l.left right t ≡ Some k → CanBe (And a b) s k.truth
-      go true c e = both k.truth c (g l.left k e)
-      go false c e =
-          let t : false ≡ k.truth = ap (λ (x : Option Look). elim x [ None ↦ false | Some y ↦ y.truth ]) e in
-          subst (λ (x : Bool). CanBe (And a b) s x) t (inl c)
+      go : (on t : Bool) → (A (not on) → J (not on)) → ((t : Bool) → A on → B t → J t) → A t
+          → look_on on l.left right t ≡ Some k → J k.truth
+      go true true stops goes c e = goes k.truth c (g l.left k e)
+      go false false stops goes c e = goes k.truth c (g l.left k e)
+      go true false stops goes c e = subst J (seen false e) (stops c)
+      go false true stops goes c e = subst J (seen true e) (stops c)
 
-  or_can : (a b : Cond) (o : Option Look) (right : List ℤ → Option Look) (k : Look)
-      → ((l : Look) → o ≡ Some l → CanBe a s l.truth)
-      → ((cs : List ℤ) (l : Look) → right cs ≡ Some l → CanBe b s l.truth) → look_second false o right ≡ Some k
-      → CanBe (Or a b) s k.truth
-  or_can a b None right k h g e = cc
-  or_can a b (Some l) right k h g e = go l.truth (h l refl) e
-    where
-      both : (t : Bool) → CanBe a s false → CanBe b s t → CanBe (Or a b) s t
-      both true x y = inr y
-      both false x y = (x, y)
+  and_can : (a b : Cond) (t : Bool) → CanBe a s true → CanBe b s t → CanBe (And a b) s t
+  and_can a b true x y = (x, y)
+  and_can a b false x y = inr y
 
-      go : (t : Bool) → CanBe a s t → look_on false l.left right t ≡ Some k → CanBe (Or a b) s k.truth
-      go false c e = both k.truth c (g l.left k e)
-      go true c e =
-          let t : true ≡ k.truth = ap (λ (x : Option Look). elim x [ None ↦ false | Some y ↦ y.truth ]) e in
-          subst (λ (x : Bool). CanBe (Or a b) s x) t (inl c)
+  or_can : (a b : Cond) (t : Bool) → CanBe a s false → CanBe b s t → CanBe (Or a b) s t
+  or_can a b true x y = inr y
+  or_can a b false x y = (x, y)
 
   pub look_can : (c : Cond) (cs : List ℤ) (l : Look) → look c s cs ≡ Some l → CanBe c s l.truth
   look_can Any cs l e = tt
   look_can (Atom p c q) cs l e =
-      let t : compares c (value p s) (value q s) ≡ l.truth = ap (λ (x : Option Look). elim x [ None ↦ false | Some y ↦ y.truth ]) e in
-      subst (λ (x : Bool). CanBe (Atom p c q) s x) t (atom_can (compares c (value p s) (value q s)) p q c (compares_says c (value p s) (value q s)))
+      let t : compares c (value p s) (value q s) ≡ l.truth = ap
+      (λ (x : Option Look). elim x [ None ↦ false | Some y ↦ y.truth ]) e in
+      subst (λ (x : Bool). CanBe (Atom p c q) s x) t (atom_can (compares c (value p s) (value q s)) p q c
+      (compares_says c (value p s) (value q s)))
   look_can (Not a) cs l e = not_can a (look a s cs) l (λ k d. look_can a cs k d) e
-  look_can (And a b) cs l e = and_can a b (look a s cs) (look b s) l (λ k d. look_can a cs k d) (λ ds k d. look_can b ds k d) e
-  look_can (Or a b) cs l e = or_can a b (look a s cs) (look b s) l (λ k d. look_can a cs k d) (λ ds k d. look_can b ds k d) e
+  look_can (And a b) cs l e =
+      both_can true (CanBe a s) (CanBe b s) (CanBe (And a b) s) (λ c. inl c) (and_can a b) (look a s cs) (look b s) l
+      (λ k d. look_can a cs k d) (λ ds k d. look_can b ds k d) e
+  look_can (Or a b) cs l e =
+      both_can false (CanBe a s) (CanBe b s) (CanBe (Or a b) s) (λ c. inl c) (or_can a b) (look a s cs) (look b s) l
+      (λ k d. look_can a cs k d) (λ ds k d. look_can b ds k d) e
 
 -- what a branch that is picked says of the look
 record Branches (o : Option Look) (c d x : Config) : Type 0 where
@@ -147,9 +146,11 @@ module _ (k : ℕ) (rest : Stack) (s : State) where
   -- what is picked is a step
   pub picked_step : (st : Stmt) (cs : List ℤ) (x : Config) (left : List ℤ) → picked k st rest s cs ≡ Goes x left
       → StepOf k st rest s x.stack x.state
-  picked_step (Set y t) cs x left e = at_config (Set y t) (record { stack = rest; state = changed s y (value t s) }) x (cc) (refl, refl)
+  picked_step (Set y t) cs x left e = at_config (Set y t) (record { stack = rest; state = changed s y (value t s) }) x
+      (cc) (refl, refl)
   picked_step (Havoc y) [] x left e = cc
-  picked_step (Havoc y) (v ∷ cs) x left e = at_config (Havoc y) (record { stack = rest; state = changed s y v }) x (cc) (v, refl, refl)
+  picked_step (Havoc y) (v ∷ cs) x left e = at_config (Havoc y) (record { stack = rest; state = changed s y v }) x (cc)
+      (v, refl, refl)
   picked_step (Assume c) cs x left e =
       let a = assumes (look c s cs) (record { stack = rest; state = s }) x left e in
       at_config (Assume c) (record { stack = rest; state = s }) x a.3 (looked c cs a.0 true a.1 a.2, refl, refl)
@@ -164,7 +165,11 @@ module _ (k : ℕ) (rest : Stack) (s : State) where
       (λ i. at_config (If c a b) second x i.1 (inr (looked c cs r.seen false r.is_seen i.0, refl, refl)))
       r.where_to
   picked_step (While c a) cs x left e =
-      let first : Config = record { stack = numbered (k + 1) a ++ record { number = k; stmt = While c a } ∷ rest; state = s } in
+      let first : Config = record {
+        stack = numbered (k + 1) a ++ record { number = k; stmt = While c a } ∷ rest;
+        state
+            = s;
+      } in
       let second : Config = record { stack = rest; state = s } in
       let r = branches (look c s cs) first second x left e in
       ⊎_elim
@@ -183,7 +188,8 @@ pub run_head : (turns : ℕ) (stack : Stack) (s : State) (cs : List ℤ)
 run_head turns [] s cs = ([], refl)
 run_head zero (top ∷ rest) s cs = ([], refl)
 run_head (suc turns) (top ∷ rest) s cs =
-    run_on_head (picked top.number top.stmt rest s cs) (record { stack = top ∷ rest; state = s }) (λ c left. run_from turns c.stack c.state left)
+    run_on_head (picked top.number top.stmt rest s cs) (record { stack = top ∷ rest; state = s })
+    (λ c left. run_from turns c.stack c.state left)
 
 steps_on : (c : Config) (p : Picked) (more : Config → List ℤ → Run)
     → ((d : Config) (left : List ℤ) → p ≡ Goes d left → Step c.stack c.state d.stack d.state)
@@ -197,7 +203,8 @@ pub run_steps : (turns : ℕ) (stack : Stack) (s : State) (cs : List ℤ) → Ar
 run_steps turns [] s cs = (tt, tt)
 run_steps zero (top ∷ rest) s cs = (tt, tt)
 run_steps (suc turns) (top ∷ rest) s cs =
-    steps_on (record { stack = top ∷ rest; state = s }) (picked top.number top.stmt rest s cs) (λ c left. run_from turns c.stack c.state left)
+    steps_on (record { stack = top ∷ rest; state = s }) (picked top.number top.stmt rest s cs)
+    (λ c left. run_from turns c.stack c.state left)
     (λ d left e. picked_step top.number rest s top.stmt cs d left e)
     (λ d left. run_head turns d.stack d.state left)
     (λ d left. run_steps turns d.stack d.state left)

@@ -38,7 +38,8 @@ module _ (P : Program) where
   all_arrive : (cs : List Config) (c : Config) → AreSteps (c ∷ cs) → Arrives P c.stack c.state → (d : Config)
       → Contains (c ∷ cs) d → Arrives P d.stack d.state
   all_arrive [] c h a d i =
-      ⊎_elim (λ e. subst (λ (x : Config). Arrives P x.stack x.state) (sym e) a) (λ j. absurd (Contains-none d j)) (Contains-cases c [] d i)
+      ⊎_elim (λ e. subst (λ (x : Config). Arrives P x.stack x.state) (sym e) a) (λ j. absurd (Contains-none d j))
+      (Contains-cases c [] d i)
   all_arrive (x ∷ cs) c h a d i =
       ⊎_elim
       (λ e. subst (λ (x : Config). Arrives P x.stack x.state) (sym e) a)

@@ -68,7 +68,8 @@ module _ (p : Named) (kept : IsWithin program_limits p) where
   P = nameless p
 
   many : length (points P) ≡ widths P.body + 1
-  many = let l = length-points 0 0 (program_places P) (0 + widths P.body) (0 + counts P.body) (places_of_tile 0 0 P.body (widths P.body)) in omega arith
+  many = let l = length-points 0 0 (program_places P) (0 + widths P.body) (0 + counts P.body)
+      (places_of_tile 0 0 P.body (widths P.body)) in omega arith
 
   ascends : (e : Edge) → Contains (edges P) e → (is_head (graph_of P) e.to ≡ true) ⊎ (e.from < e.to)
   ascends e c = ⊎_elim (λ l. inr l) (λ i. inl (head_found (heads P) e.to i.is_head)) (edges_rise P e c)
@@ -76,12 +77,14 @@ module _ (p : Named) (kept : IsWithin program_limits p) where
   heads_stay : (h : ℕ) → Contains (heads P) h → h < length (points P)
   heads_stay h c =
       let l = head_place (program_places P) h c in
-      let w = within 0 0 (program_places P) (0 + widths P.body) (0 + counts P.body) (places_of_tile 0 0 P.body (widths P.body)) l.0 l.1 in
+      let w = within 0 0 (program_places P) (0 + widths P.body) (0 + counts P.body)
+      (places_of_tile 0 0 P.body (widths P.body)) l.0 l.1 in
       omega (arith, many, w.1, l.2)
 
   edge_numbers : (e : Edge) → Contains (edges P) e → EachOp (λ x. Unit {0}) (IsNumberWithin (2 ^ 31 + 1)) e.op
   edge_numbers =
-      each_edge P (λ x. Unit {0}) (IsNumberWithin (2 ^ 31)) kept.numbers (IsNumberWithin (2 ^ 31 + 1)) (λ t h. omega (arith, h)) (number_more (2 ^ 31))
+      each_edge P (λ x. Unit {0}) (IsNumberWithin (2 ^ 31)) kept.numbers (IsNumberWithin (2 ^ 31 + 1))
+      (λ t h. omega (arith, h)) (number_more (2 ^ 31))
 
   pub graph_of_program : IsControlGraph (graph_of P)
   graph_of_program = record {
@@ -89,7 +92,8 @@ module _ (p : Named) (kept : IsWithin program_limits p) where
     points = omega (arith, many, widths_few P.body, kept.statements, kept.atoms);
     edges = omega (arith, edges_few P.body 0 0 (widths P.body), kept.statements, kept.atoms);
     few = omega (arith, heads_few P.body 0 0 (widths P.body), kept.statements);
-    joins = λ k d l. let s = edges_stay P (get_or (edges P) k d) (Contains-get_or (edges P) k d l) in (omega (arith, s.0, many), omega (arith, s.1, many));
+    joins = λ k d l. let s = edges_stay P (get_or (edges P) k d) (Contains-get_or (edges P) k d l) in
+        (omega (arith, s.0, many), omega (arith, s.1, many));
     fits = λ k d l. edges_fit P kept.coordinates (get_or (edges P) k d) (Contains-get_or (edges P) k d l);
     numbers = λ k d l. edge_numbers (get_or (edges P) k d) (Contains-get_or (edges P) k d l);
     ascends = λ k d l. ascends (get_or (edges P) k d) (Contains-get_or (edges P) k d l);

@@ -33,30 +33,41 @@ edge_to_ascends f op (Some t) = (omega arith, omega arith)
 test_ascends : (t : Test) (f m : ℕ) (hit miss : Option ℕ) → f ≤ m → Ascends f (test_edges t f m hit miss) (m + inner t)
 test_ascends Choice f m hit miss l =
     ascends_to f (edge_to f Skips hit ++ edge_to f Skips miss) f (m + 0) (omega arith)
-    (ascends_append f (edge_to f Skips hit) f (edge_to f Skips miss) f (edge_to_ascends f Skips hit) (edge_to_ascends f Skips miss))
+    (ascends_append f (edge_to f Skips hit) f (edge_to f Skips miss) f (edge_to_ascends f Skips hit)
+    (edge_to_ascends f Skips miss))
 test_ascends (Guard p q) f m hit miss l =
     ascends_to f (edge_to f (Guards p q) hit ++ edge_to f (Guards (above q) p) miss) f (m + 0) (omega arith)
-    (ascends_append f (edge_to f (Guards p q) hit) f (edge_to f (Guards (above q) p) miss) f (edge_to_ascends f (Guards p q) hit) (edge_to_ascends f (Guards (above q) p) miss))
+    (ascends_append f (edge_to f (Guards p q) hit) f (edge_to f (Guards (above q) p) miss) f
+    (edge_to_ascends f (Guards p q) hit) (edge_to_ascends f (Guards (above q) p) miss))
 test_ascends (Negated a) f m hit miss l = test_ascends a f m miss hit l
 test_ascends (Both a b) f m hit miss l =
-    ascends_append f (test_edges a f m (Some (m + inner a)) miss) (m + inner a) (test_edges b (m + inner a) (m + inner a + 1) hit miss) (m + inner (Both a b))
+    ascends_append f (test_edges a f m (Some (m + inner a)) miss) (m + inner a)
+    (test_edges b (m + inner a) (m + inner a + 1) hit miss) (m + inner (Both a b))
     (test_ascends a f m (Some (m + inner a)) miss l)
-    (ascends_to (m + inner a) (test_edges b (m + inner a) (m + inner a + 1) hit miss) (m + inner a + 1 + inner b) (m + inner (Both a b)) (omega arith)
+    (ascends_to (m + inner a) (test_edges b (m + inner a) (m + inner a + 1) hit miss) (m + inner a + 1 + inner b)
+    (m + inner (Both a b)) (omega arith)
     (test_ascends b (m + inner a) (m + inner a + 1) hit miss (omega arith)))
 test_ascends (Either a b) f m hit miss l =
-    ascends_append f (test_edges a f m hit (Some (m + inner a))) (m + inner a) (test_edges b (m + inner a) (m + inner a + 1) hit miss) (m + inner (Either a b))
+    ascends_append f (test_edges a f m hit (Some (m + inner a))) (m + inner a)
+    (test_edges b (m + inner a) (m + inner a + 1) hit miss) (m + inner (Either a b))
     (test_ascends a f m hit (Some (m + inner a)) l)
-    (ascends_to (m + inner a) (test_edges b (m + inner a) (m + inner a + 1) hit miss) (m + inner a + 1 + inner b) (m + inner (Either a b)) (omega arith)
+    (ascends_to (m + inner a) (test_edges b (m + inner a) (m + inner a + 1) hit miss) (m + inner a + 1 + inner b)
+    (m + inner (Either a b)) (omega arith)
     (test_ascends b (m + inner a) (m + inner a + 1) hit miss (omega arith)))
 
 own_ascends : (st : Stmt) (p next : ℕ) → Ascends p (own_edges p st next) (p + 1 + own_inner st)
-own_ascends (Set x t) p next = ascends_to p (own_edges p (Set x t) next) p (p + 1 + 0) (omega arith) (edge_to_ascends p (Sets x t) (Some next))
-own_ascends (Havoc x) p next = ascends_to p (own_edges p (Havoc x) next) p (p + 1 + 0) (omega arith) (edge_to_ascends p (Havocs x) (Some next))
-own_ascends (Assert a) p next = ascends_to p (own_edges p (Assert a) next) p (p + 1 + 0) (omega arith) (edge_to_ascends p Skips (Some next))
-own_ascends Skip p next = ascends_to p (own_edges p Skip next) p (p + 1 + 0) (omega arith) (edge_to_ascends p Skips (Some next))
+own_ascends (Set x t) p next = ascends_to p (own_edges p (Set x t) next) p (p + 1 + 0) (omega arith)
+    (edge_to_ascends p (Sets x t) (Some next))
+own_ascends (Havoc x) p next = ascends_to p (own_edges p (Havoc x) next) p (p + 1 + 0) (omega arith)
+    (edge_to_ascends p (Havocs x) (Some next))
+own_ascends (Assert a) p next = ascends_to p (own_edges p (Assert a) next) p (p + 1 + 0) (omega arith)
+    (edge_to_ascends p Skips (Some next))
+own_ascends Skip p next = ascends_to p (own_edges p Skip next) p (p + 1 + 0) (omega arith)
+    (edge_to_ascends p Skips (Some next))
 own_ascends (Assume c) p next = test_ascends (test c) p (p + 1) (Some next) None (omega arith)
 own_ascends (If c a b) p next =
-    test_ascends (test c) p (p + 1) (Some (entry (p + 1 + inner (test c)) a next)) (Some (entry (p + 1 + inner (test c) + widths a) b next)) (omega arith)
+    test_ascends (test c) p (p + 1) (Some (entry (p + 1 + inner (test c)) a next))
+    (Some (entry (p + 1 + inner (test c) + widths a) b next)) (omega arith)
 own_ascends (While c a) p next =
     test_ascends (test c) p (p + 1) (Some (entry (p + 1 + inner (test c)) a p)) (Some next) (omega arith)
 
@@ -65,10 +76,12 @@ places_ascend lo k [] hi j h = omega (arith, h.0)
 places_ascend lo k (l ∷ ls) hi j h =
     let rest = places_ascend (lo + 1 + own_inner l.stmt) (k + 1) ls hi j h.2 in
     ascends_append lo (own_edges l.point l.stmt l.next) (lo + 1 + own_inner l.stmt) (edges_of ls) hi
-    (subst (λ (x : ℕ). Ascends x (own_edges l.point l.stmt l.next) (x + 1 + own_inner l.stmt)) h.0 (own_ascends l.stmt l.point l.next)) rest
+    (subst (λ (x : ℕ). Ascends x (own_edges l.point l.stmt l.next) (x + 1 + own_inner l.stmt)) h.0
+    (own_ascends l.stmt l.point l.next)) rest
 
 -- edges are numbered by the points where they begin
 pub edges_ascend : (P : Program) → Ascends 0 (edges P) (widths P.body)
 edges_ascend P =
     subst (λ (x : ℕ). Ascends 0 (edges P) x) (omega arith)
-    (places_ascend 0 0 (program_places P) (0 + widths P.body) (0 + counts P.body) (places_of_tile 0 0 P.body (widths P.body)))
+    (places_ascend 0 0 (program_places P) (0 + widths P.body) (0 + counts P.body)
+    (places_of_tile 0 0 P.body (widths P.body)))

@@ -29,6 +29,9 @@ pub block_fits : (P : Program) (b : Block) (p k next : ℕ) (rest : Stack)
 block_fits P Empty p k next rest i h = h
 block_fits P (Then st b) p k next rest i h = (
   entry (p + width st) b next,
-  Includes-left (program_places P) (places p k st (entry (p + width st) b next)) (places_of (p + width st) (k + count st) b next) i,
-  block_fits P b (p + width st) (k + count st) next rest (Includes-right (program_places P) (places p k st (entry (p + width st) b next)) (places_of (p + width st) (k + count st) b next) i) h,
+  Includes-left (program_places P) (places p k st (entry (p + width st) b next))
+      (places_of (p + width st) (k + count st) b next) i,
+  block_fits P b (p + width st) (k + count st) next rest
+      (Includes-right (program_places P) (places p k st (entry (p + width st) b next))
+      (places_of (p + width st) (k + count st) b next) i) h,
 )

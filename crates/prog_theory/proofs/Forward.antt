@@ -40,7 +40,8 @@ module _ (P : Program) where
       comes p s stack s' rest s' next g.0 refl h (by_edge_to (edges P) p (Sets x t) (Some next) next s s' own refl g.1)
   step_comes (Havoc x) k rest p s stack s' (next, i, h) g =
       let own = edges_included (program_places P) _ (own_place (program_places P) p k (Havoc x) next i) in
-      comes p s stack s' rest s' next g.1 refl h (by_edge_to (edges P) p (Havocs x) (Some next) next s s' own refl (g.0, g.2))
+      comes p s stack s' rest s' next g.1 refl h (by_edge_to (edges P) p (Havocs x) (Some next) next s s' own refl
+      (g.0, g.2))
   step_comes (Assert a) k rest p s stack s' (next, i, h) g =
       let own = edges_included (program_places P) _ (own_place (program_places P) p k (Assert a) next i) in
       comes p s stack s' rest s' next g.0 refl h (by_edge_to (edges P) p Skips (Some next) next s s' own refl g.1)
@@ -60,10 +61,13 @@ module _ (P : Program) where
       ⊎_elim
       (λ t. comes p s stack s' (numbered (k + 1) a ++ rest) s (entry q a next) t.1 t.2
       (block_fits P a q (k + 1) next rest (Includes-left (program_places P) first second parts) h)
-      (test_goes (edges P) s (test c) p (p + 1) (Some (entry q a next)) (Some (entry (q + widths a) b next)) true (entry q a next) own (test_can s c true t.0) refl))
+      (test_goes (edges P) s (test c) p (p + 1) (Some (entry q a next)) (Some (entry (q + widths a) b next)) true
+      (entry q a next) own (test_can s c true t.0) refl))
       (λ t. comes p s stack s' (numbered (k + 1 + counts a) b ++ rest) s (entry (q + widths a) b next) t.1 t.2
-      (block_fits P b (q + widths a) (k + 1 + counts a) next rest (Includes-right (program_places P) first second parts) h)
-      (test_goes (edges P) s (test c) p (p + 1) (Some (entry q a next)) (Some (entry (q + widths a) b next)) false (entry (q + widths a) b next) own (test_can s c false t.0) refl))
+      (block_fits P b (q + widths a) (k + 1 + counts a) next rest
+      (Includes-right (program_places P) first second parts) h)
+      (test_goes (edges P) s (test c) p (p + 1) (Some (entry q a next)) (Some (entry (q + widths a) b next)) false
+      (entry (q + widths a) b next) own (test_can s c false t.0) refl))
       g
   step_comes (While c a) k rest p s stack s' (next, i, h) g =
       let own = edges_included (program_places P) _ (own_place (program_places P) p k (While c a) next i) in
@@ -71,10 +75,13 @@ module _ (P : Program) where
       let top : Numbered = record { number = k; stmt = While c a } in
       ⊎_elim
       (λ t. comes p s stack s' (numbered (k + 1) a ++ top ∷ rest) s (entry q a p) t.1 t.2
-      (block_fits P a q (k + 1) p (top ∷ rest) (Includes-tail (program_places P) _ (places_of q (k + 1) a p) i) (next, i, h))
-      (test_goes (edges P) s (test c) p (p + 1) (Some (entry q a p)) (Some next) true (entry q a p) own (test_can s c true t.0) refl))
+      (block_fits P a q (k + 1) p (top ∷ rest) (Includes-tail (program_places P) _ (places_of q (k + 1) a p) i)
+      (next, i, h))
+      (test_goes (edges P) s (test c) p (p + 1) (Some (entry q a p)) (Some next) true (entry q a p) own
+      (test_can s c true t.0) refl))
       (λ t. comes p s stack s' rest s next t.1 t.2 h
-      (test_goes (edges P) s (test c) p (p + 1) (Some (entry q a p)) (Some next) false next own (test_can s c false t.0) refl))
+      (test_goes (edges P) s (test c) p (p + 1) (Some (entry q a p)) (Some next) false next own
+      (test_can s c false t.0) refl))
       g
 
   -- a walk from point 0 comes to where the stack fits
@@ -90,7 +97,14 @@ module _ (P : Program) where
   step_stands [] s after s' h g = absurd g
   step_stands (top ∷ rest) s after s' h g =
       let c = step_comes top.stmt top.number rest h.at s after s' h.fits g in
-      record { at = c.at; fits = c.fits; start = h.start; wide = h.wide; goes = joined (edges P) 0 h.start h.at s c.at s' h.goes c.goes }
+      record {
+        at = c.at;
+        fits = c.fits;
+        start = h.start;
+        wide = h.wide;
+        goes = joined (edges P) 0 h.start h.at s c.at
+            s' h.goes c.goes;
+      }
 
   -- the whole program stands at point 0
   pub begins_fit : (b : Block) (n : ℕ) → n ≡ widths P.body → Includes (program_places P) (places_of 0 0 b n)
@@ -108,7 +122,13 @@ module _ (P : Program) where
   arrives_stands stack s (goes_on before t after u a g) = step_stands before t after u (arrives_stands before t a) g
 
   stands_reaches : (stack : Stack) (s : State) (p : ℕ) (h : Stands stack s) → h.at ≡ p → WalksTo P p s
-  stands_reaches stack s p h e = (h.start, h.wide, h.goes.count, subst (λ (x : ℕ). Walk (edges P) h.goes.count 0 h.start x s) e h.goes.walk)
+  stands_reaches stack s p h e = (
+    h.start,
+    h.wide,
+    h.goes.count,
+    subst
+        (λ (x : ℕ). Walk (edges P) h.goes.count 0 h.start x s) e h.goes.walk,
+  )
 
   -- the place of a statement on top is where its number stands
   pub top_place : (p k at : ℕ) (st : Stmt) (rest : Stack) → slice_get (points P) p ≡ Some (Statement k)
@@ -117,13 +137,15 @@ module _ (P : Program) where
       let t = places_of_tile 0 0 P.body (widths P.body) in
       let l = statement_place 0 0 (program_places P) (0 + widths P.body) (0 + counts P.body) t p k e in
       let m : Place = record { point = at; number = k; stmt = st; next = f.0 } in
-      let same : l.0 ≡ m = one_number 0 0 (program_places P) (0 + widths P.body) (0 + counts P.body) t l.0 m l.1 (own_place (program_places P) at k st f.0 f.1) l.3 in
+      let same : l.0 ≡ m = one_number 0 0 (program_places P) (0 + widths P.body) (0 + counts P.body) t l.0 m l.1
+      (own_place (program_places P) at k st f.0 f.1) l.3 in
       let point : l.0.point ≡ at = ap (λ (v : Place). v.point) same in
       omega (arith, l.2)
 
   pub exit_place : (p at : ℕ) → slice_get (points P) p ≡ Some Exit → Fits P [] at → at ≡ p
   exit_place p at e f =
-      let x = exit_is 0 0 (program_places P) (0 + widths P.body) (0 + counts P.body) (places_of_tile 0 0 P.body (widths P.body)) p e in
+      let x = exit_is 0 0 (program_places P) (0 + widths P.body) (0 + counts P.body)
+      (places_of_tile 0 0 P.body (widths P.body)) p e in
       omega arith
 
   -- each visit is a walk

@@ -16,8 +16,14 @@ pub edges_included : (ls : List Place) (l : Place) → Contains ls l
 edges_included [] l c = absurd (Contains-none l c)
 edges_included (x ∷ ls) l c =
     ⊎_elim
-    (λ e. record { has = λ y h. Contains-append_left (own_edges x.point x.stmt x.next) (edges_of ls) y (subst (λ (v : Place). Contains (own_edges v.point v.stmt v.next) y) e h) })
-    (λ d. record { has = λ y h. Contains-append_right (own_edges x.point x.stmt x.next) (edges_of ls) y ((edges_included ls l d).has y h) })
+    (λ e. record {
+      has = λ y h. Contains-append_left (own_edges x.point x.stmt x.next) (edges_of ls) y
+          (subst (λ (v : Place). Contains (own_edges v.point v.stmt v.next) y) e h);
+    })
+    (λ d. record {
+      has = λ y h. Contains-append_right (own_edges x.point x.stmt x.next) (edges_of ls) y
+          ((edges_included ls l d).has y h);
+    })
     (Contains-cases x ls l c)
 
 -- an edge of the list is an edge of a place
@@ -37,15 +43,20 @@ test_source st p n e x h = ⊎_elim (λ k. (omega arith, omega arith)) (λ k. (o
 -- an edge of a statement begins at its point or at one of its inner points
 pub own_sources : (st : Stmt) (p next : ℕ) (e : Edge) → Contains (own_edges p st next) e
     → (p ≤ e.from) × (e.from < p + 1 + own_inner st)
-own_sources (Set x t) p next e c = let i = edge_to_is p (Sets x t) (Some next) e c in (omega (arith, i.from), omega (arith, i.from))
-own_sources (Havoc x) p next e c = let i = edge_to_is p (Havocs x) (Some next) e c in (omega (arith, i.from), omega (arith, i.from))
-own_sources (Assert a) p next e c = let i = edge_to_is p Skips (Some next) e c in (omega (arith, i.from), omega (arith, i.from))
-own_sources Skip p next e c = let i = edge_to_is p Skips (Some next) e c in (omega (arith, i.from), omega (arith, i.from))
+own_sources (Set x t) p next e c = let i = edge_to_is p (Sets x t) (Some next) e c in
+    (omega (arith, i.from), omega (arith, i.from))
+own_sources (Havoc x) p next e c = let i = edge_to_is p (Havocs x) (Some next) e c in
+    (omega (arith, i.from), omega (arith, i.from))
+own_sources (Assert a) p next e c = let i = edge_to_is p Skips (Some next) e c in
+    (omega (arith, i.from), omega (arith, i.from))
+own_sources Skip p next e c = let i = edge_to_is p Skips (Some next) e c in
+    (omega (arith, i.from), omega (arith, i.from))
 own_sources (Assume t) p next e c =
     test_source (Assume t) p (inner (test t)) refl e.from (test_sources (test t) p (p + 1) (Some next) None e c)
 own_sources (If t a b) p next e c =
     test_source (If t a b) p (inner (test t)) refl e.from
-    (test_sources (test t) p (p + 1) (Some (entry (p + 1 + inner (test t)) a next)) (Some (entry (p + 1 + inner (test t) + widths a) b next)) e c)
+    (test_sources (test t) p (p + 1) (Some (entry (p + 1 + inner (test t)) a next))
+    (Some (entry (p + 1 + inner (test t) + widths a) b next)) e c)
 own_sources (While t a) p next e c =
     test_source (While t a) p (inner (test t)) refl e.from
     (test_sources (test t) p (p + 1) (Some (entry (p + 1 + inner (test t)) a p)) (Some next) e c)
@@ -60,7 +71,8 @@ past_inner : (n i : ℕ) (rest : List Point) (x : Point) → slice_get (replicat
     → (x ≡ Inner) ⊎ ((j : ℕ) × (i ≡ n + j) × (slice_get rest j ≡ Some x))
 past_inner zero i rest x h = inr (i, omega arith, h)
 past_inner (suc n) zero rest x h = inl (cc)
-past_inner (suc n) (suc i) rest x h = ⊎_elim (λ k. inl k) (λ k. inr (k.0, omega (arith, k.1), k.2)) (past_inner n i rest x h)
+past_inner (suc n) (suc i) rest x h = ⊎_elim (λ k. inl k) (λ k. inr (k.0, omega (arith, k.1), k.2))
+    (past_inner n i rest x h)
 
 -- the point of a place is its statement
 pub point_of_place : (lo k : ℕ) (ls : List Place) (hi j : ℕ) → Tiles lo k ls hi j → (l : Place) → Contains ls l

@@ -1,4 +1,5 @@
 -- How many points, edges and heads the graph of a program has: they follow from its statements and atoms.
+-- Index: inner_few, width_few, widths_few, edges_few, heads_few.
 use Rattle.std.proofs.Common.{◌≡◌, ℕ, ◌+◌, ◌*◌, ◌≤◌, List, [], ◌∷◌, ◌++◌, Option, Some, None, length, arith}
 use Rattle.std.proofs.lemmas.List.{length-append}
 use Rattle.prog_theory.specs.States.{Term}
@@ -14,17 +15,25 @@ use Rattle.prog_theory.specs.Heads.{own_heads, heads_of}
 
 -- ---- points
 
-comparison_inner : (c : Cmp) (p q : Term) → inner (comparison c p q) + 1 ≤ 2
-comparison_inner Le p q = omega arith
-comparison_inner Lt p q = omega arith
-comparison_inner Ge p q = omega arith
-comparison_inner Gt p q = omega arith
-comparison_inner Eq p q = omega arith
-comparison_inner Ne p q = omega arith
+-- how many edges a test has at most
+abbrev most : Test → ℕ
+most Choice = 2
+most (Guard l r) = 2
+most (Negated a) = most a
+most (Both a b) = most a + most b
+most (Either a b) = most a + most b
+
+comparison_few : (c : Cmp) (p q : Term) → (inner (comparison c p q) + 1 ≤ 2) × (most (comparison c p q) ≤ 4)
+comparison_few Le p q = (omega arith, omega arith)
+comparison_few Lt p q = (omega arith, omega arith)
+comparison_few Ge p q = (omega arith, omega arith)
+comparison_few Gt p q = (omega arith, omega arith)
+comparison_few Eq p q = (omega arith, omega arith)
+comparison_few Ne p q = (omega arith, omega arith)
 
 pub inner_few : (c : Cond) → inner (test c) + 1 ≤ 2 * cond_atoms c
 inner_few Any = omega arith
-inner_few (Atom p c q) = comparison_inner c p q
+inner_few (Atom p c q) = (comparison_few c p q).0
 inner_few (Not a) = inner_few a
 inner_few (And a b) = omega (arith, inner_few a, inner_few b)
 inner_few (Or a b) = omega (arith, inner_few a, inner_few b)
@@ -49,14 +58,6 @@ to_few : (f : ℕ) (op : Op) (o : Option ℕ) → length (edge_to f op o) ≤ 1
 to_few f op None = omega arith
 to_few f op (Some t) = omega arith
 
--- how many edges a test has at most
-abbrev most : Test → ℕ
-most Choice = 2
-most (Guard l r) = 2
-most (Negated a) = most a
-most (Both a b) = most a + most b
-most (Either a b) = most a + most b
-
 test_few : (t : Test) (f m : ℕ) (hit miss : Option ℕ) → length (test_edges t f m hit miss) ≤ most t
 test_few Choice f m hit miss =
     let l = length-append (edge_to f Skips hit) (edge_to f Skips miss) in
@@ -68,25 +69,19 @@ test_few (Negated a) f m hit miss = test_few a f m miss hit
 test_few (Both a b) f m hit miss =
     let x = test_few a f m (Some (m + inner a)) miss in
     let y = test_few b (m + inner a) (m + inner a + 1) hit miss in
-    let l = length-append (test_edges a f m (Some (m + inner a)) miss) (test_edges b (m + inner a) (m + inner a + 1) hit miss) in
+    let l = length-append (test_edges a f m (Some (m + inner a)) miss)
+    (test_edges b (m + inner a) (m + inner a + 1) hit miss) in
     omega (arith, x, y)
 test_few (Either a b) f m hit miss =
     let x = test_few a f m hit (Some (m + inner a)) in
     let y = test_few b (m + inner a) (m + inner a + 1) hit miss in
-    let l = length-append (test_edges a f m hit (Some (m + inner a))) (test_edges b (m + inner a) (m + inner a + 1) hit miss) in
+    let l = length-append (test_edges a f m hit (Some (m + inner a)))
+    (test_edges b (m + inner a) (m + inner a + 1) hit miss) in
     omega (arith, x, y)
-
-comparison_most : (c : Cmp) (p q : Term) → most (comparison c p q) ≤ 4
-comparison_most Le p q = omega arith
-comparison_most Lt p q = omega arith
-comparison_most Ge p q = omega arith
-comparison_most Gt p q = omega arith
-comparison_most Eq p q = omega arith
-comparison_most Ne p q = omega arith
 
 cond_most : (c : Cond) → most (test c) ≤ 4 * cond_atoms c
 cond_most Any = omega arith
-cond_most (Atom p c q) = comparison_most c p q
+cond_most (Atom p c q) = (comparison_few c p q).1
 cond_most (Not a) = cond_most a
 cond_most (And a b) = omega (arith, cond_most a, cond_most b)
 cond_most (Or a b) = omega (arith, cond_most a, cond_most b)
@@ -111,14 +106,25 @@ mutual
       let own = own_edges p (If c a b) next in
       let first = places_of (p + 1 + inner (test c)) (k + 1) a next in
       let second = places_of (p + 1 + inner (test c) + widths a) (k + 1 + counts a) b next in
-      let x = cond_few c p (p + 1) (Some (entry (p + 1 + inner (test c)) a next)) (Some (entry (p + 1 + inner (test c) + widths a) b next)) in
-      omega (arith, x, length-append own (edges_of (first ++ second)), edges_of-append first second, edges_few a (p + 1 + inner (test c)) (k + 1) next, edges_few b (p + 1 + inner (test c) + widths a) (k + 1 + counts a) next)
+      let x = cond_few c p (p + 1) (Some (entry (p + 1 + inner (test c)) a next))
+      (Some (entry (p + 1 + inner (test c) + widths a) b next)) in
+      omega (
+        arith,
+        x,
+        length-append own (edges_of (first ++ second)),
+        edges_of-append first second,
+        edges_few a
+            (p + 1 + inner (test c)) (k + 1) next,
+        edges_few b (p + 1 + inner (test c) + widths a) (k + 1 + counts a)
+            next,
+      )
   stmt_edges_few (While c a) p k next =
       let own = own_edges p (While c a) next in
       let body = places_of (p + 1 + inner (test c)) (k + 1) a p in
       let x = cond_few c p (p + 1) (Some (entry (p + 1 + inner (test c)) a p)) (Some next) in
       omega (arith, x, length-append own (edges_of body), edges_few a (p + 1 + inner (test c)) (k + 1) p)
-  stmt_edges_few (Assume c) p k next = alone p k (Assume c) next _ (omega (arith, cond_few c p (p + 1) (Some next) None))
+  stmt_edges_few (Assume c) p k next = alone p k (Assume c) next _
+      (omega (arith, cond_few c p (p + 1) (Some next) None))
   stmt_edges_few (Set x t) p k next = alone p k (Set x t) next _ (to_few p (Sets x t) (Some next))
   stmt_edges_few (Havoc x) p k next = alone p k (Havoc x) next _ (to_few p (Havocs x) (Some next))
   stmt_edges_few (Assert c) p k next = alone p k (Assert c) next _ (to_few p Skips (Some next))
@@ -129,7 +135,13 @@ mutual
   edges_few (Then st b) p k next =
       let first = places p k st (entry (p + width st) b next) in
       let second = places_of (p + width st) (k + count st) b next in
-      omega (arith, edges_of-append first second, stmt_edges_few st p k (entry (p + width st) b next), edges_few b (p + width st) (k + count st) next)
+      omega (
+        arith,
+        edges_of-append first second,
+        stmt_edges_few st p k (entry (p + width st) b next),
+        edges_few b
+            (p + width st) (k + count st) next,
+      )
 
 -- ---- heads
 
@@ -145,7 +157,13 @@ mutual
   stmt_heads_few (If c a b) p k next =
       let first = places_of (p + 1 + inner (test c)) (k + 1) a next in
       let second = places_of (p + 1 + inner (test c) + widths a) (k + 1 + counts a) b next in
-      omega (arith, heads_of-append first second, heads_few a (p + 1 + inner (test c)) (k + 1) next, heads_few b (p + 1 + inner (test c) + widths a) (k + 1 + counts a) next)
+      omega (
+        arith,
+        heads_of-append first second,
+        heads_few a (p + 1 + inner (test c)) (k + 1) next,
+        heads_few b
+            (p + 1 + inner (test c) + widths a) (k + 1 + counts a) next,
+      )
   stmt_heads_few (While c a) p k next = omega (arith, heads_few a (p + 1 + inner (test c)) (k + 1) p)
   stmt_heads_few (Assume c) p k next = omega arith
   stmt_heads_few (Set x t) p k next = omega arith
@@ -158,4 +176,5 @@ mutual
   heads_few (Then st b) p k next =
       let first = places p k st (entry (p + width st) b next) in
       let second = places_of (p + width st) (k + count st) b next in
-      omega (arith, heads_of-append first second, stmt_heads_few st p k (entry (p + width st) b next), heads_few b (p + width st) (k + count st) next)
+      let later = heads_few b (p + width st) (k + count st) next in
+      omega (arith, heads_of-append first second, stmt_heads_few st p k (entry (p + width st) b next), later)

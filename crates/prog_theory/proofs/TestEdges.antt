@@ -29,7 +29,8 @@ module _ (es : List Edge) (s : State) where
       (test_goes a f m (Some (m + inner a)) miss true (m + inner a) (Includes-left es _ _ i) h.0 refl)
       (test_goes c (m + inner a) (m + inner a + 1) hit miss true q (Includes-right es _ _ i) h.1 e)
   test_goes (Both a c) f m hit miss false q i h e =
-      let left = λ (k : Can a s false). test_goes a f m (Some (m + inner a)) miss false q (Includes-left es _ _ i) k e in
+      let left = λ (k : Can a s false). test_goes a f m (Some (m + inner a)) miss false q (Includes-left es _ _ i) k e
+      in
       let right = λ (j : Can a s true) (k : Can c s false). joined es f s (m + inner a) s q s
       (test_goes a f m (Some (m + inner a)) miss true (m + inner a) (Includes-left es _ _ i) j refl)
       (test_goes c (m + inner a) (m + inner a + 1) hit miss false q (Includes-right es _ _ i) k e) in

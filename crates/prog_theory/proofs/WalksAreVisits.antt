@@ -16,8 +16,8 @@ module _ (P : Program) where
   pub visits_are_reached : (p : ℕ) (s : State) → Visits P p s → Reaches (graph_of P) p s
   visits_are_reached p s v = walks_reach P p s (visits_reach P p s v)
 
-  -- A walk from point 0, at any state, comes to the point of a statement or to the exit with a state exactly where a run
-  -- of the program visits the point with that state.
+  -- A walk from point 0, at any state, comes to the point of a statement or to the exit with a state exactly where a
+  -- run of the program visits the point with that state.
   pub walks_are_visits : (p : ℕ) (s : State) → IsOuter P p → Reaches (graph_of P) p s ↔ Visits P p s
   walks_are_visits p s o = (λ h. reach_visits P p s o (reaches_walks P h), λ h. visits_are_reached p s h)
 

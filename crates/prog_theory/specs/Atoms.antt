@@ -15,10 +15,7 @@ abbrev mutual
   stmt_atoms (Assume c) = cond_atoms c
   stmt_atoms (If c a b) = cond_atoms c + block_atoms a + block_atoms b
   stmt_atoms (While c a) = cond_atoms c + block_atoms a
-  stmt_atoms (Set x t) = 0
-  stmt_atoms (Havoc x) = 0
-  stmt_atoms (Assert c) = 0
-  stmt_atoms Skip = 0
+  stmt_atoms _ = 0
 
   pub block_atoms : Block → ℕ
   block_atoms Empty = 0

@@ -6,8 +6,8 @@ use Rattle.prog_theory.specs.Edges.{Edge}
 use Rattle.prog_theory.specs.Graph.{Point, points, edges}
 use Rattle.prog_theory.specs.Heads.{heads}
 
--- the points, the edges in order, and the numbers of the points at which loops begin; so many variables have a number in
--- each state
+-- the points, the edges in order, and the numbers of the points at which loops begin; so many variables have a number
+-- in each state
 pub record ControlGraph : Type 0 where
   pub vars : ℕ
   pub points : List Point

@@ -34,10 +34,7 @@ abbrev mutual
   EachClaim C (Assert a) = C a
   EachClaim C (If c a b) = EachClaims C a × EachClaims C b
   EachClaim C (While c a) = EachClaims C a
-  EachClaim C (Set x t) = Unit {0}
-  EachClaim C (Havoc x) = Unit {0}
-  EachClaim C (Assume c) = Unit {0}
-  EachClaim C Skip = Unit {0}
+  EachClaim C _ = Unit {0}
 
   pub EachClaims : (Claim → Type 0) → Block → Type 0
   EachClaims C Empty = Unit {0}

@@ -4,8 +4,8 @@ use Rattle.std.specs.Prelude.{ℕ, suc, max, Bool, true, false}
 use Rattle.prog_theory.specs.Conditions.{Cond, Any, Atom, Not, And, Or}
 use Rattle.prog_theory.specs.Statements.{Stmt, Set, Havoc, Assume, Assert, If, While, Skip, Block, Empty, Then}
 
--- Alone or left of `||`, where nothing takes parentheses; right of `||` or left of `&&`, where `||` takes them; right of
--- `&&` or behind `!`, where `&&` takes them too.
+-- Alone or left of `||`, where nothing takes parentheses; right of `||` or left of `&&`, where `||` takes them; right
+-- of `&&` or behind `!`, where `&&` takes them too.
 pub data Level : Type 0 where
   Loose : Level
   Tight : Level

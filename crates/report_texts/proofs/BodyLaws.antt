@@ -17,7 +17,7 @@ use Rattle.report_texts.specs.LineTexts.{IsLine, IsPlacedLine, line_at}
 use Rattle.report_texts.specs.Heads.{from_last, against}
 use Rattle.report_texts.specs.Bodies.{AreTexts, IsBody, Outcome, Further, Whole, further, whole, outcome, settled, on_line, body_from, body_at}
 use Rattle.report_texts.specs.Faults.{IsBodyFault, NoLine, Against}
-use Rattle.report_texts.proofs.Exact.{Exact, ok_same, from_last-is}
+use Rattle.report_texts.proofs.Exact.{Exact, ok_same, last_of}
 use Rattle.report_texts.proofs.Runs.{so_far}
 use Rattle.report_texts.proofs.Steps.{Good, start_good, step, final_is, has_step}
 use Rattle.report_texts.proofs.Taken.{then_progress, one_progress, no_progress, body_taken, begun_good}
@@ -360,16 +360,12 @@ module _ {V : Type 0} (kind : RingKind) (R : Semiring V) (N : Numbering V) (name
       let n = last.is.0 in
       let taken : l.taken ≡ last.front ++ LineEnd n ∷ [] =
       last.whole ∙ ap (λ (z : Piece). last.front ++ z ∷ []) last.is.1 in
-      let vs_is : vs ≡ last.front ++ LineEnd n ∷ rest =
-      l.whole ∙ ap (λ (z : List Piece). z ++ rest) taken ∙ append_assoc last.front (LineEnd n ∷ []) rest in
-      let m = miss_is (record { what = ReportFault; rest = from_last vs rest }) miss e in
-      let left : miss.rest ≡ LineEnd n ∷ rest =
-      sym (ap (λ (z : Miss Piece FaultKind). z.rest) m) ∙ ap (λ (z : List Piece). from_last z rest) vs_is
-      ∙ from_last-is last.front (LineEnd n) rest in
-      Against us last.front rest n xs s x (h.split ∙ ap (λ (z : List Piece). us ++ z) vs_is) h.lines h.taken
+      let k = last_of vs l.taken last.front (LineEnd n) rest ReportFault miss l.whole taken
+      (miss_is (record { what = ReportFault; rest = from_last vs rest }) miss e) in
+      Against us last.front rest n xs s x (h.split ∙ ap (λ (z : List Piece). us ++ z) k.whole) h.lines h.taken
       (subst (λ (z : List Piece). IsPlacedLine kind R N names s.place z x) taken l.is)
       (subst (λ (z : List (Line V)). BeginsBody N points numbers z) h.are (begun_good N points numbers s h.good))
-      (begins_not xs s x h.taken none) (sym (ap (λ (z : Miss Piece FaultKind). z.what) m)) left
+      (begins_not xs s x h.taken none) k.what_is k.left
 
   rest_stops : (n : ℕ) (ts us vs : List Piece) (xs : List (Line V)) (s : Progress V) (miss : Miss Piece FaultKind) →
       length vs < n → IsAt ts us vs xs s → reads_on n s vs ≡ Err miss →

@@ -1,8 +1,9 @@
 -- Reading functions that read just the texts of a grammar, whatever follows; and where they stop.
--- Index: Exact, Exact-reads, Exact-then, Exact-gives, same_value, from_last-is, first_then.
+-- Index: Exact, Exact-reads, Exact-then, Exact-gives, same_value, from_last-is, IsLastOf, last_of,
+-- first_then.
 use Rattle.std.proofs.Common.{◌≡◌, ◌-◌, suc, List, [], ◌∷◌, ◌++◌, length, length-append, Ok, refl, sym, ap, ◌∙◌, append_assoc, arith}
 use Rattle.std.specs.Prelude.{drop}
-use Rattle.trop_grammar.specs.Reading.{Reading, go_on, read_then, gives}
+use Rattle.trop_grammar.specs.Reading.{Reading, Miss, go_on, read_then, gives}
 use Rattle.trop_grammar.specs.Grammar.{Empty, Then}
 use Rattle.trop_grammar.specs.Reads.{Reads, Anything}
 use Rattle.trop_grammar.proofs.Laws.{go_on-ok}
@@ -70,3 +71,23 @@ from_last-is front t rest =
     let e : length (front ++ t ∷ rest) - suc (length rest) ≡ length front =
     omega (arith, length-append front (t ∷ rest)) in
     ap (λ n. drop n (front ++ t ∷ rest)) e ∙ drop-front front (t ∷ rest)
+
+-- what was taken ends with the token t, and that token is blamed
+pub record IsLastOf {T W : Type 0} (ts front : List T) (t : T) (rest : List T) (what : W) (miss : Miss T W) : Type 0
+  where
+    pub whole : ts ≡ front ++ t ∷ rest
+    pub what_is : miss.what ≡ what
+    pub left : miss.rest ≡ t ∷ rest
+
+pub last_of : {T W : Type 0} (ts taken front : List T) (t : T) (rest : List T) (what : W) (miss : Miss T W) →
+    ts ≡ taken ++ rest → taken ≡ front ++ t ∷ [] → record { what = what; rest = from_last ts rest } ≡ miss →
+    IsLastOf ts front t rest what miss
+last_of {T} {W} ts taken front t rest what miss whole last m =
+    let e : ts ≡ front ++ t ∷ rest =
+    whole ∙ ap (λ (z : List T). z ++ rest) last ∙ append_assoc front (t ∷ []) rest in
+    record {
+      whole = e;
+      what_is = sym (ap (λ (z : Miss T W). z.what) m);
+      left = sym (ap (λ (z : Miss T W). z.rest) m) ∙ ap (λ (z : List T). from_last z rest) e
+          ∙ from_last-is front t rest;
+    }

@@ -14,4 +14,3 @@ pub mod Numbers
 pub mod WrittenReports
 pub mod ReadReports
 pub mod Sample
-pub mod FirstFaults

@@ -8,6 +8,8 @@ use Rattle.trop_theory.specs.Inequalities.{Inequality}
 use Rattle.trop_text.specs.Pieces.{Piece}
 use Rattle.trop_text.specs.declared.fault.FaultKind.{FaultKind}
 use Rattle.trop_text.specs.declared.fault.FaultKind.TheVariants.{Syntax, TooManyLines}
+use Rattle.trop_grammar.specs.Grammar.{One, Then}
+use Rattle.trop_grammar.specs.Lists.{Passes}
 use Rattle.trop_grammar.specs.Reads.{Reads, Anything}
 use Rattle.trop_grammar.proofs.Laws.{Reads-then, Reads-gives}
 use Rattle.trop_grammar.proofs.ListLaws.{Reads-judged}
@@ -83,22 +85,23 @@ module _ {V : Type 0} (kind : RingKind) (R : Semiring V) (N : Numbering V) (name
   admitted_same place (RowWord c) x e = may_same (may_row place) (RowWord c) x e
   admitted_same place InvWord x e = may_same (may_inv place) InvWord x e
 
+  -- the same text, by another judge of its first piece
+  judged_by : {A B : Type 0} {J K : Piece → Result A FaultKind} {S : A → List Piece → B → Type 0} (us : List Piece)
+      (x : B) (h : Then (One (Passes J)) S us x) → K h.first.token ≡ Ok h.value → Then (One (Passes K)) S us x
+  judged_by us x h is = record {
+    front = h.front;
+    back = h.back;
+    value = h.value;
+    whole = h.whole;
+    first = record { token = h.first.token; whole = h.first.whole; is = is };
+    second = h.second;
+  }
+
   pub placed_is : (place : Place V) (us : List Piece) (x : Line V) → IsPlacedLine kind R N names place us x →
       IsLine kind R N names us x
   placed_is place us x h =
       let k = both_ok (line_word R h.first.token) (admitted place) h.value h.first.is in
-      record {
-        front = h.front;
-        back = h.back;
-        value = h.value;
-        whole = h.whole;
-        first = record {
-          token = h.first.token;
-          whole = h.first.whole;
-          is = k.1 ∙ ap Ok (admitted_same place k.0 h.value k.2);
-        };
-        second = h.second;
-      }
+      judged_by us x h (k.1 ∙ ap Ok (admitted_same place k.0 h.value k.2))
 
   -- ---- a line that is taken may stand there
 
@@ -168,18 +171,8 @@ module _ {V : Type 0} (kind : RingKind) (R : Semiring V) (N : Numbering V) (name
 
     pub line_placed : (s : Progress V) (us : List Piece) (x : Line V) → IsLine kind R N names us x → IsAccepted s x →
         IsPlacedLine kind R N names s.place us x
-    line_placed s us x h a = record {
-      front = h.front;
-      back = h.back;
-      value = h.value;
-      whole = h.whole;
-      first = record {
-        token = h.first.token;
-        whole = h.first.whole;
-        is = ap (λ v. both v (admitted s.place)) h.first.is ∙ word_admitted s h.value h.back x h.second a;
-      };
-      second = h.second;
-    }
+    line_placed s us x h a = judged_by us x h
+        (ap (λ v. both v (admitted s.place)) h.first.is ∙ word_admitted s h.value h.back x h.second a)
 
   -- ---- the ends of lines
 

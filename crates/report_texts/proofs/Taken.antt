@@ -10,7 +10,7 @@ use Rattle.report_texts.specs.Limits.{most_lines}
 use Rattle.report_texts.specs.Lines.{Line, At, Unreachable, Row, Inv, Last, Block, Body, Judged, Each, part_lines, blocks_lines, judged_line, lines_of, has_finite, IsPart, IsBodyOf, BeginsBody}
 use Rattle.report_texts.specs.Progress.{Place, Outside, Opened, Shut, InRows, InInvs, Judging, Progress, start, block, ending, is_label, is_number, moved, opened, judged, first_judged, behind, after_at, after_assert, next, verdicts, complete, final, go_on, progress}
 use Rattle.report_texts.proofs.Runs.{and_both, get_behind, same_is, Each-append, open_lines, so_far, is_judging, blocks-append, blocks_all}
-use Rattle.report_texts.proofs.Steps.{points_in, numbers_in, here, PlaceOk, PartOk, Good}
+use Rattle.report_texts.proofs.Steps.{points_in, numbers_in, here, PlaceOk, PartOk, Good, verdicts_none}
 
 module _ {V : Type 0} (N : Numbering V) (points : List Point) (numbers : List ℕ) where
   pub progress-append : (xs ys : List (Line V)) (s : Progress V) → progress N points numbers s (xs ++ ys) ≡
@@ -255,14 +255,6 @@ module _ {V : Type 0} (N : Numbering V) (points : List Point) (numbers : List �
       ∙ ap (λ (z : List Judged). complete points numbers z (s.blocks ++ r.ended)) e
       ∙ ap (complete points numbers js) r.are
 
-  verdicts_plain : (place : Place V) → is_judging place ≡ false → verdicts place ≡ []
-  verdicts_plain Outside j = refl
-  verdicts_plain (Opened q) j = refl
-  verdicts_plain (Shut q) j = refl
-  verdicts_plain (InRows q x rows) j = refl
-  verdicts_plain (InInvs q x rows i invs) j = refl
-  verdicts_plain (Judging v js) j = absurd cc
-
   ready_start : IsReady start []
   ready_start = record { ended = []; ends = refl; plain = refl; are = refl }
 
@@ -275,7 +267,7 @@ module _ {V : Type 0} (N : Numbering V) (points : List Point) (numbers : List �
         whole = refl;
         to = h.to;
         taken = h.taken;
-        final_is = final_ready h.to bs [] h.ready (verdicts_plain h.to.place h.ready.plain)
+        final_is = final_ready h.to bs [] h.ready (verdicts_none h.to.place h.ready.plain)
             ∙ complete_taken [] bs len (sym none);
       }
   body_with bs (w ∷ js) len same h =

@@ -24,7 +24,7 @@ use Rattle.report_texts.specs.Reports.{ReportText, assert_numbers}
 use Rattle.report_texts.specs.Heads.{digits, is_version, IsReportLine, IsHead, word_line_at, from_last, against, known_version, version_at}
 use Rattle.report_texts.specs.Texts.{report, SpellsReport, report_at, answer, report_answer}
 use Rattle.report_texts.specs.Faults.{FaultsOf, FirstFault, InTurn, First, Second, IsVersionFault, NoReportLine, OtherVersion, IsReportFault}
-use Rattle.report_texts.proofs.Exact.{Exact, Exact-reads, Exact-then, Exact-gives, from_last-is}
+use Rattle.report_texts.proofs.Exact.{Exact, Exact-reads, Exact-then, Exact-gives, last_of}
 use Rattle.report_texts.proofs.ProgramLaws.{program_part_exact, program_part_stops}
 use Rattle.report_texts.proofs.HeadLaws.{report_line_reads, report_line_last, version_exact, head_reads}
 use Rattle.report_texts.proofs.BodyLaws.{body_exact, body_stops}
@@ -82,13 +82,10 @@ other_version ts n rest miss line other e =
     let k = last.is.0 in
     let taken : t.taken ≡ last.front ++ LineEnd k ∷ [] =
     last.whole ∙ ap (λ (z : Piece). last.front ++ z ∷ []) last.is.1 in
-    let ts_is : ts ≡ last.front ++ LineEnd k ∷ rest =
-    t.whole ∙ ap (λ (z : List Piece). z ++ rest) taken ∙ append_assoc last.front (LineEnd k ∷ []) rest in
-    let m = miss_is (record { what = ReportFault; rest = from_last ts rest }) miss e in
-    OtherVersion last.front rest n k ts_is (subst (λ (z : List Piece). IsReportLine z n) taken t.is) other
-    (sym (ap (λ (z : Miss Piece FaultKind). z.what) m))
-    (sym (ap (λ (z : Miss Piece FaultKind). z.rest) m) ∙ ap (λ (z : List Piece). from_last z rest) ts_is
-    ∙ from_last-is last.front (LineEnd k) rest)
+    let m = last_of ts t.taken last.front (LineEnd k) rest ReportFault miss t.whole taken
+    (miss_is (record { what = ReportFault; rest = from_last ts rest }) miss e) in
+    OtherVersion last.front rest n k m.whole (subst (λ (z : List Piece). IsReportLine z n) taken t.is) other
+    m.what_is m.left
 
 version_stops : Stops version_at IsVersionFault
 unfolding version_at

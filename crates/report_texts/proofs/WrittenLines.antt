@@ -17,6 +17,8 @@ use Rattle.trop_text.specs.declared.token.TokenKind.TheVariants.{Word, Digits}
 use Rattle.trop_text.proofs.Numbers.{number_of-decimal}
 use Rattle.std.proofs.lemmas.Fmt.{decimal_is_IsNumeral}
 use Rattle.trop_text.proofs.Written.{tok, IsOne, IsWritten, written_join, written_as}
+use Rattle.trop_grammar.specs.Grammar.{One, Then}
+use Rattle.trop_grammar.specs.Lists.{Passes}
 use Rattle.trop_text.proofs.WrittenTokens.{Always, StopsWord, word_written, blank_written}
 use Rattle.trop_text.proofs.WrittenLines.{AreLines, lines_none, lines_one, lines_join}
 use Rattle.trop_spelling.specs.Spelling.{KindLaws}
@@ -29,7 +31,8 @@ use Rattle.prog_theory.specs.Graph.{Point, Statement, Inner, Exit}
 use Rattle.report_texts.specs.Limits.{greatest_entry, greatest_inv}
 use Rattle.report_texts.specs.Modes.{Mode, InMax, InMin, Element, kind_of, ring_of, is_reversed, numbering}
 use Rattle.report_texts.specs.Lines.{Line, At, Unreachable, Row, Inv, Asserted, Last, Each}
-use Rattle.report_texts.specs.LineTexts.{line_word, AtWord, ShutWord, RowWord, InvWord, AssertWord, EndWord, OfStatement, Alone, label_word, verdict_word, normalised, IsLine}
+use Rattle.report_texts.specs.LineTexts.{line_word, AtWord, ShutWord, RowWord, InvWord, AssertWord, EndWord, OfStatement, Alone, label_word, verdict_word, normalised, IsLineRest, IsLine}
+use Rattle.report_texts.specs.LineTexts as line_texts
 use Rattle.report_texts.specs.Heads.{digits}
 use Rattle.report_texts.specs.Bodies.{AreTexts}
 use Rattle.report_texts.specs.Printed.{label_text, verdict_text, row_text, line_text, lines_text}
@@ -86,6 +89,17 @@ module _ (mode : Mode) (names : List (List ℕ)) (are : AreNames names) where
   abbrev Ended : Line Element → ℕ → List Piece → Type 0
   Ended x line us = IsLine (kind_of mode) R numbering names (us ++ LineEnd line ∷ []) x
 
+  -- a word and a number, and then a text of the rest
+  numbered : {S : ℕ → List Piece → Line Element → Type 0} (word : List ℕ) (n : ℕ) (bs : List Bit) (us : List Piece)
+      (line : ℕ) (w : line_texts.Word Element) (x : Line Element) → ((vs : List Piece) →
+      Then (One (Passes digits)) S vs x → IsLineRest (kind_of mode) R numbering names w vs x) → n < 2 ^ 64 →
+      ((l c : ℕ) → line_word R (Token (tok Word word l c)) ≡ Ok w) → AreBits (Says word ∷ Counts n ∷ bs) us →
+      ((ws : List Piece) → AreBits bs ws → S n (ws ++ LineEnd line ∷ []) x) → Ended x line us
+  numbered word n bs us line w x rest hn is h more =
+      let end : List Piece = LineEnd line ∷ [] in
+      bits_then (Says word) (Counts n ∷ bs) us end w x h is (λ vs g. rest (vs ++ end)
+      (bits_then (Counts n) bs vs end n x g (λ l c. digits_pass n l c hn) more))
+
   at_statement : (n k : ℕ) (us : List Piece) (line : ℕ) → n < 2 ^ 64 → k < 2 ^ 64 →
       AreBits (Says (codes "at") ∷ Counts n ∷ Says (codes "statement") ∷ Counts k ∷ []) us →
       Ended (At n (Statement k)) line us
@@ -121,31 +135,24 @@ module _ (mode : Mode) (names : List (List ℕ)) (are : AreNames names) where
       AreBits (Says (codes "at") ∷ Counts n ∷ Says word ∷ []) us → Ended (At n p) line us
   unfolding line_word
   at_alone n word p us line hn passes h =
-      let end : List Piece = LineEnd line ∷ [] in
-      let x : Line Element = At n p in
-      bits_then (Says (codes "at")) (Counts n ∷ Says word ∷ []) us end AtWord x h
-      (λ l c. refl) (λ vs g. bits_then (Counts n) (Says word ∷ []) vs end n x g
-      (λ l c. digits_pass n l c hn) (λ ws m. bits_then (Says word) [] ws end (Alone p) x m passes
-      (λ zs q. record {
+      numbered (codes "at") n (Says word ∷ []) us line AtWord (At n p) (λ vs g. g) hn (λ l c. refl) h
+      (λ ws m. bits_then (Says word) [] ws (LineEnd line ∷ []) (Alone p) (At n p) m passes (λ zs q. record {
         front = [];
-        back = zs ++ end;
+        back = zs ++ LineEnd line ∷ [];
         value = p;
         whole = refl;
         first = record { none = refl; is = refl };
-        second = line_ended line x zs q;
-      })))
+        second = line_ended line (At n p) zs q;
+      }))
 
   asserted : (n : ℕ) (word : List ℕ) (b : Bool) (us : List Piece) (line : ℕ) → n < 2 ^ 64 →
       ((l c : ℕ) → verdict_word (Token (tok Word word l c)) ≡ Ok b) →
       AreBits (Says (codes "assert") ∷ Counts n ∷ Says word ∷ []) us → Ended (Asserted n b) line us
   unfolding line_word
   asserted n word b us line hn passes h =
-      let end : List Piece = LineEnd line ∷ [] in
-      let x : Line Element = Asserted n b in
-      bits_then (Says (codes "assert")) (Counts n ∷ Says word ∷ []) us end AssertWord x h
-      (λ l c. refl) (λ vs g. bits_then (Counts n) (Says word ∷ []) vs end n x g
-      (λ l c. digits_pass n l c hn) (λ ws m. bits_then (Says word) [] ws end b x m passes
-      (λ zs q. line_ended line x zs q)))
+      numbered (codes "assert") n (Says word ∷ []) us line AssertWord (Asserted n b) (λ vs g. g) hn (λ l c. refl) h
+      (λ ws m. bits_then (Says word) [] ws (LineEnd line ∷ []) b (Asserted n b) m passes
+      (λ zs q. line_ended line (Asserted n b) zs q))
 
   shut_line : (us : List Piece) (line : ℕ) → AreBits (Says (codes "unreachable") ∷ []) us → Ended Unreachable line us
   unfolding line_word
