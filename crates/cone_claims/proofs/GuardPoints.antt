@@ -1,7 +1,7 @@
 -- Whether a guard leaves a vector with a finite coordinate 0, by the rows of the cone.
 -- Index: times_finite, plus_finite, entry-mixed, from_kept, mixed_member, from_both, from_other, to_rows, guard_point
-use Rattle.std.proofs.Common.{◌≡◌, ◌≢◌, ◌⊎◌, inl, inr, ⊎_elim, ℕ, suc, Bool, List, length, map, get_or, sym, ap, ◌∙◌, subst, ap₂}
-use Rattle.std.specs.Prelude.{All, Any, Contains, ◌↔◌}
+use Rattle.std.proofs.Common.{◌≡◌, ◌≢◌, ◌⊎◌, inl, inr, ⊎_elim, ℕ, suc, Bool, List, length, get_or, sym, ap, ◌∙◌, subst, ap₂}
+use Rattle.std.specs.Prelude.{Any, Contains, ◌↔◌}
 use Rattle.std.proofs.lemmas.List.{length-map}
 use Rattle.std.proofs.lemmas.List.Elements.{All-contains, Contains-get_or}
 use Rattle.trop_theory.specs.Semiring.{Semiring, SemiringLaws, Le}
@@ -10,7 +10,7 @@ use Rattle.trop_theory.specs.Numbers.{Numbering, NumericLaws}
 use Rattle.trop_theory.specs.Inequalities.{Inequality, IsTrueAt, InGuard, IsIn}
 use Rattle.trop_theory.specs.Combinations.{IsCombination}
 use Rattle.trop_theory.specs.Steps.{mixed}
-use Rattle.trop_theory.proofs.Order.{below_zero, le_total, le-plus_left, le-plus_right, plus_itself, times_zero, undo_times, zero_below}
+use Rattle.trop_theory.proofs.Order.{below_zero, le_total, le-plus_right, times_zero, undo_times}
 use Rattle.trop_theory.proofs.Rows.{entry-joined, entry-scaled}
 use Rattle.trop_theory.proofs.Combinations.{IsCombination-length, IsCombination-joined, IsCombination-scaled}
 use Rattle.trop_theory.proofs.SameCones.{IsCombination-contained}

@@ -1,8 +1,11 @@
 -- Searches through a list, one element after another.
-use Rattle.std.proofs.Common.{◌≡◌, ◌<◌, ◌≤◌, ◌+◌, ⊎_elim, ℕ, false, List, length, get_or, sym, ◌∙◌, subst, arith, true≢false}
+use Rattle.std.proofs.Common.{◌≡◌, ◌<◌, ◌≤◌, ◌+◌, ⊎_elim, ℕ, true, false, List, length, get_or, refl, sym, ◌∙◌, subst, arith, true≢false}
 use Rattle.std.specs.Prelude.{All, Any, IsTrue, ◌↔◌}
 use Rattle.std.proofs.lemmas.Bool.{cases_lt}
 use Rattle.std.proofs.lemmas.List.{get_or_default}
+use Rattle.trop_theory.specs.Semiring.{Semiring}
+use Rattle.trop_theory.specs.Vectors.{row_size, rows_size}
+use Rattle.trop_row.proofs.Sizes.{rows_size-read}
 
 -- what holds of the elements before a place and of the element there
 pub each_more : {X : Type 0} (P : X → Type 0) (xs : List X) (k : ℕ) (x : X) → x ≡ get_or xs k x → k < length xs
@@ -29,3 +32,17 @@ not_each P xs k x is l fails = (
   λ f. absurd (true≢false (sym f)),
   λ h. absurd (fails (subst P (sym is) (h k x l))),
 )
+
+-- where each element has the property
+pub each_found : {X : Type 0} (P : X → Type 0) (xs : List X) (k : ℕ) → length xs ≤ k
+    → ((j : ℕ) (d : X) → j < k → P (get_or xs j d)) → IsTrue true ↔ All P xs
+each_found P xs k past before = (λ t j d l. before j d (omega (arith, l, past)), λ h. refl)
+
+-- what the sizes of all rows allow, that of a row which is read does
+pub read_small : {V : Type 0} (R : Semiring V) (rows : List (List V)) (k : ℕ) (x : List V) (more most : ℕ)
+    → x ≡ get_or rows k x → k < length rows → rows_size R rows + more ≤ most → row_size R x + more ≤ most
+read_small R rows k x more most is l small = omega (arith, rows_size-read R rows k x is l, small)
+
+pub read_within : {V : Type 0} (R : Semiring V) (rows : List (List V)) (k : ℕ) (x : List V) (most : ℕ)
+    → x ≡ get_or rows k x → k < length rows → rows_size R rows ≤ most → row_size R x ≤ most
+read_within R rows k x most is l small = omega (arith, rows_size-read R rows k x is l, small)

@@ -1,5 +1,5 @@
 -- The sum of terms at a row, one term after another, and the sizes on the way.
-use Rattle.std.proofs.Common.{◌≡◌, ◌<◌, ◌≤◌, ◌+◌, ℕ, zero, suc, List, [], ◌∷◌, length, drop, map, set, get_or, sym, ap, ◌∙◌, subst, refl, arith}
+use Rattle.std.proofs.Common.{◌≡◌, ◌<◌, ◌≤◌, ◌+◌, ℕ, zero, suc, List, ◌∷◌, length, drop, map, set, get_or, sym, ap, ◌∙◌, subst, refl, arith}
 use Rattle.std.specs.Prelude.{All, unsigned_abs}
 use Rattle.std.proofs.lemmas.List.{drop_more, drop_all, get_or-map, get_or_default, length-map}
 use Rattle.trop_theory.specs.Semiring.{Semiring, SemiringLaws}
@@ -11,7 +11,6 @@ use Rattle.prog_theory.specs.States.{Term}
 use Rattle.prog_theory.specs.Within.{IsNumberWithin}
 use Rattle.cone_reports.specs.Sides.{side}
 use Rattle.cone_reports.proofs.Sides.{dot-more, dot-bottom}
-use Rattle.cone_claims.specs.Terms.{IsOn}
 
 -- what holds of each element's view holds of that of an element that was read
 pub holds_read : {X Y : Type 0} (P : Y → Type 0) (f : X → Y) (xs : List X) (k : ℕ) (x : X) → x ≡ get_or xs k x

@@ -48,8 +48,7 @@ fn is_true_at_each<S: Numeric>(claim: &Claim, rows: &[Row<S>], n: u32) -> bool
 }
 
 /// Whether the claim is proven on the combinations of the rows: each of its one or two inequalities, as the semiring
-/// reads
-/// them, is true at every combination.
+/// reads them, is true at every combination.
 pub fn proven_by<S: Numeric>(rows: &Gens<S>, claim: &Claim) -> bool
     requires fits { IsClaimOn rows.now.n (claim_of claim.now) }
     requires size { rows_size S.ring rows.now.rows ≤ most_entry }

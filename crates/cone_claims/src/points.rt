@@ -117,7 +117,8 @@ fn some_shows<S: Scalar>(rows: &[Row<S>], ineq: &Ineq<S>, n: u32, what: Shown) -
 pub fn guard_has_point<S: Numeric>(rows: &Gens<S>, ineq: &Ineq<S>) -> bool
     requires inside { IsIn rows.now.n ineq.now }
     requires sizes { rows_size S.ring rows.now.rows + inequality_size S.ring ineq.now ≤ most_entry }
-    ensures { IsTrue result ↔ HasPoint S.ring (InGuard S.ring (IsCombination S.ring rows.now.n rows.now.rows) ineq.now) }
+    ensures { IsTrue result ↔ HasPoint S.ring
+        (InGuard S.ring (IsCombination S.ring rows.now.n rows.now.rows) ineq.now) }
 {
     let n = rows.n();
     let list = rows.as_slice();

@@ -3,7 +3,7 @@ use Rattle.std.proofs.Common.{◌≡◌, ◌<◌, ◌≤◌, ◌+◌, ◌*◌, �
 use Rattle.std.proofs.Math.Nat.{mul-le-mul_left}
 use Rattle.std.proofs.lemmas.List.{take_more}
 use Rattle.trop_theory.specs.Semiring.{Semiring, SemiringLaws}
-use Rattle.trop_theory.specs.Inequalities.{Inequality, IsValidOn, inequality_size, system_size}
+use Rattle.trop_theory.specs.Inequalities.{Inequality, IsIn, IsValidOn, inequality_size, system_size}
 use Rattle.trop_theory.specs.Combinations.{IsCombination}
 use Rattle.trop_theory.specs.Canonical.{row_limit}
 use Rattle.trop_theory.specs.StepList.{AreChosen}
@@ -17,7 +17,7 @@ use Rattle.cone_domain.specs.Refused.{IsUnstopped}
 use Rattle.dom_poly.specs.Kept.{most_kept}
 use Rattle.trop_duality.specs.External.{IsExternal}
 use Rattle.trop_duality.specs.PolarStops.{IsPolarStop}
-use Rattle.std.specs.Prelude.{Err}
+use Rattle.std.specs.Prelude.{All, Err}
 use Rattle.trop_poly.specs.Cones.{Cone, InCone}
 use Rattle.trop_poly.specs.Refusals.{IsExternalRefusal}
 use Rattle.trop_poly.specs.declared.error.PolyErr.{PolyErr}
@@ -29,6 +29,17 @@ use Rattle.dom_poly.proofs.Named.{cone_as}
 pub same_inequality : {V : Type 0} (p q : Inequality V) → p.left ≡ q.left → p.right ≡ q.right → p ≡ q
 same_inequality p q left right = ap (λ l. record { left = l; right = p.right }) left
     ∙ ap (λ r. record { left = q.left; right = r }) right
+
+-- the copy of an inequality of a list is as wide as the list
+pub copy_wide : {V : Type 0} (n m : ℕ) (whole list : List (Inequality V)) (k : ℕ) (x p : Inequality V) → list ≡ whole
+    → All (IsIn n) whole → k < length list → x ≡ get_or list k x → p.left ≡ x.left → p.right ≡ x.right → m ≡ n
+    → IsIn m p
+copy_wide n m whole list k x p same wide within is left right width =
+    let item : IsIn n x = subst (IsIn n) (sym is) (subst (All (IsIn n)) (sym same) wide k x within) in
+    record {
+      left = ap length left ∙ item.left ∙ sym width;
+      right = ap length right ∙ item.right ∙ sym width;
+    }
 
 pub taken_more : {X : Type 0} (xs : List X) (k : ℕ) (x : X) → k < length xs → x ≡ get_or xs k x →
     take (k + 1) xs ≡ take k xs ++ x ∷ []

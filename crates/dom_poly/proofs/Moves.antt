@@ -1,6 +1,8 @@
 -- The image of a cone: what an operation makes of it where that has a point, and else bottom alone.
-use Rattle.std.proofs.Common.{◌≡◌, ◌<◌, ◌≤◌, inl, inr, ℕ, Bool, true, false, List, refl, sym, ap, ◌∙◌, subst, arith}
-use Rattle.std.specs.Prelude.{◌↔◌, Result, Ok, Err}
+use Rattle.std.proofs.Common.{◌≡◌, ◌+◌, ◌^◌, ◌<◌, ◌≤◌, inl, inr, ℕ, ℤ, Bool, true, false, List, refl, sym, ap, ◌∙◌, subst, subst₂, arith, w64}
+use Rattle.std.specs.Prelude.{◌↔◌, IsTrue, Result, Ok, Err, unsigned_abs}
+use Rattle.std.proofs.lemmas.Int.{to_z-of_z, fits_signed_from_abs}
+use mir.Val.{of_z, to_z}
 use Rattle.std.proofs.lemmas.List.{get_or-set_other}
 use Rattle.trop_theory.specs.Semiring.{Semiring, SemiringLaws}
 use Rattle.trop_theory.specs.Vectors.{entry, bottom, row_size}
@@ -12,7 +14,7 @@ use Rattle.trop_cones.specs.Represents.{Represents}
 use Rattle.trop_cones.proofs.Sizes.{row_size-set, row_size-bottom}
 use Rattle.trop_cones.proofs.Represented.{Represents-same}
 use Rattle.trop_duality.proofs.Polars.{IsOverLimit-same}
-use Rattle.trop_poly.specs.Cones.{Cone}
+use Rattle.trop_poly.specs.Cones.{Cone, InCone}
 use Rattle.trop_poly.specs.declared.error.PolyErr.{PolyErr}
 use Rattle.trop_poly.specs.declared.error.PolyErr.TheVariants as cones
 use Rattle.prog_theory.specs.States.{Term}
@@ -95,6 +97,17 @@ module _ {V : Type 0} {R : Semiring V} {N : Numbering V} {reversed : Bool} (laws
   -- the number of a term
   pub number_small : (t : Term) → IsNumberWithin m t → R.size (N.of t.add) ≤ m
   number_small t h = omega (arith, numbers.size (N.of t.add) t.add (numbers.to-of t.add), h)
+
+-- a number of an operation is that of the code
+pub number_kept : (x : ℤ) → unsigned_abs x ≤ 2 ^ 31 + 1 → to_z w64 (of_z w64 x) ≡ x
+number_kept x small = to_z-of_z w64 x (fits_signed_from_abs w64 x (omega (arith, small)))
+
+-- what is found of the rows of a cone, of the cone
+pub judged_rows : {V : Type 0} (R : Semiring V) (cone : Cone V) (n : ℕ) (rows : List (List V)) (b : Bool)
+    (P : (List V → Type 0) → List V → Type 0) → n ≡ cone.n → rows ≡ cone.rows
+    → IsTrue b ↔ HasPoint R (P (IsCombination R n rows)) → IsTrue b ↔ HasPoint R (P (InCone R cone))
+judged_rows R cone n rows b P width same h =
+    subst₂ (λ m list. IsTrue b ↔ HasPoint R (P (IsCombination R m list))) width same h
 
 -- the cone itself
 pub skipped : {V : Type 0} (R : Semiring V) (n : ℕ) (cone next : Cone V) → next ≡ cone → cone.n ≡ n →

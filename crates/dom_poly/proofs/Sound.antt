@@ -1,4 +1,7 @@
 -- What every value keeps, from what is known of its cone and its list.
+-- Index: one_more, value_width, sound_fresh, sound_listed, units_size, whole_is_units, whole_is_everything,
+-- whole_is_small, empty_is_nothing, described, list_in, width_some, list_small, listed_is_not_nothing, nothing_by_rows,
+-- copied_none, none_is_copy.
 use Rattle.std.proofs.Common.{◌≡◌, ◌≤◌, ◌-◌, ℕ, zero, suc, List, [], length, Option, Some, None, sym, ap, ◌∙◌, refl, subst, arith, ◌∷◌, ◌==◌, false, eq-eqb, eqb-true, true≢false}
 use Rattle.std.specs.Prelude.{All, ◌↔◌, MatchOption, IsTrue}
 use Rattle.trop_theory.specs.Semiring.{Semiring, SemiringLaws}

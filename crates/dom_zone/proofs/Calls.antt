@@ -44,10 +44,12 @@ pub image-none : (vars : ℕ) (b kept : Option (List Bound)) (op : Op) (x y : Zo
 image-none vars b kept op x y none e on is =
     subst (λ x. FitsOp x.vars op → IsAnswer zone_lists (Apply op x) (Ok y))
     (ap (λ b. list vars b kept) (sym none) ∙ e)
-    (λ on. moved-answer op (list vars None kept) on None (record { closed = tt; image = empty-image vars op }) (Ok y) (is, tt)) on
+    (λ on. moved-answer op (list vars None kept) on None (record { closed = tt; image = empty-image vars op }) (Ok y)
+    (is, tt)) on
 
 pub image-some : (vars : ℕ) (b kept : Option (List Bound)) (bounds : List Bound) (op : Op) (x : ZoneList)
-    (made : Option (List Bound)) (r : Result ZoneList DomErr) → b ≡ Some bounds → list vars b kept ≡ x → FitsOp x.vars op
+    (made : Option (List Bound)) (r : Result ZoneList DomErr) → b ≡ Some bounds → list vars b kept ≡ x
+    → FitsOp x.vars op
     → IsMoved vars op (Some (matrix_in vars bounds)) made → IsFitted vars made r → IsAnswer zone_lists (Apply op x) r
 image-some vars b kept bounds op x made r some e on m f =
     subst (λ x. FitsOp x.vars op → IsAnswer zone_lists (Apply op x) r)
@@ -74,7 +76,8 @@ basis-closed vars bounds (Some kept) small k = k.closed
 solved-answer : (vars : ℕ) (bounds : List Bound) (kept keeps : Option (List Bound)) (reached left : List Bound)
     (r : Result ZoneList DomErr) → IsSmallTable vars bounds → AreKeptIf vars (Some bounds) kept
     → IsLeft vars bounds kept reached left
-    → (Within (zone_of (list vars (Some reached) keeps)) (zone_of (list vars (Some bounds) kept)) → ⊥) → IsSolved vars left r
+    → (Within (zone_of (list vars (Some reached) keeps)) (zone_of (list vars (Some bounds) kept)) → ⊥)
+    → IsSolved vars left r
     → IsAnswer zone_lists (Widen (list vars (Some bounds) kept) (list vars (Some reached) keeps)) r
 solved-answer vars bounds kept keeps reached left r small k l leaves s =
     ⊎_elim (λ e. subst (IsAnswer zone_lists (Widen x next)) (sym e) tt)
@@ -87,7 +90,8 @@ solved-answer vars bounds kept keeps reached left r small k l leaves s =
     next : ZoneList
     next = list vars (Some reached) keeps
 
-pub widen-made : (vars n : ℕ) (b kept c keeps : Option (List Bound)) (bounds reached left : List Bound) (x next : ZoneList)
+pub widen-made : (vars n : ℕ) (b kept c keeps : Option (List Bound)) (bounds reached left : List Bound)
+    (x next : ZoneList)
     (r : Result ZoneList DomErr) → b ≡ Some bounds → c ≡ Some reached → list vars b kept ≡ x → list n c keeps ≡ next
     → n ≡ vars → IsSmallTable vars bounds → AreKeptIf vars (Some bounds) kept → IsLeft vars bounds kept reached left
     → (Within (zone_of next) (zone_of x) → ⊥) → IsSolved vars left r → IsAnswer zone_lists (Widen x next) r
@@ -124,7 +128,8 @@ module _ (vars : ℕ) (b kept : Option (List Bound)) (bounds : List Bound) (x : 
 
   -- ---- claims
 
-  pub shown : (claim : Claim) (r : _) → (IsTrue r ↔ Compared (AtEach vars (matrix_in vars bounds)) claim.rel claim.left claim.right)
+  pub shown : (claim : Claim) (r : _)
+      → (IsTrue r ↔ Compared (AtEach vars (matrix_in vars bounds)) claim.rel claim.left claim.right)
       → IsTrue r ↔ is_proven claim x
   shown claim r h = subst (λ x. IsTrue r ↔ is_proven claim x) at h
 
@@ -133,7 +138,8 @@ pub shown-empty : (vars : ℕ) (b kept : Option (List Bound)) (x : ZoneList) (cl
 shown-empty vars b kept x claim none e = subst (is_proven claim) (ap (λ b. list vars b kept) (sym none) ∙ e) tt
 
 -- a pair of terms holds at each state where the bound at its coordinates says so
-pub pair-judged : (vars : ℕ) (bounds : List Bound) (l t : Term) (b : Bound) (x : ℤ) (r : Bool) → IsSmallTable vars bounds
+pub pair-judged : (vars : ℕ) (bounds : List Bound) (l t : Term) (b : Bound) (x : ℤ) (r : Bool)
+    → IsSmallTable vars bounds
     → l.coord ≤ vars → t.coord ≤ vars → b ≡ entry (matrix_in vars bounds) l.coord t.coord → x ≡ t.add -ℤ l.add
     → (IsTrue r ↔ IsAtMost b x) → IsTrue r ↔ AtEach vars (matrix_in vars bounds) l t
 pair-judged vars bounds l t b x r small hl ht be xe h = (

@@ -31,7 +31,8 @@ remaining-yes a c h = rw (le_true a c h) refl
 pub remaining-no : (a c : ℤ) → c <ℤ a → remaining (Some c) (Some a) ≡ None
 remaining-no a c h = rw (le_false a c h) refl
 
-remaining-stays : (S : State → Type 0) (i j : ℕ) (old n : Bound) → IsGreatest S i j n → Stays S i j old (remaining old n)
+remaining-stays : (S : State → Type 0) (i j : ℕ) (old n : Bound) → IsGreatest S i j n
+    → Stays S i j old (remaining old n)
 remaining-stays S i j None n g = inl (λ s hs. tt, refl)
 remaining-stays S i j (Some c) None g = inr (λ h. IsGreatest-least S i j None c g h, refl)
 remaining-stays S i j (Some c) (Some a) g = ⊎_elim
@@ -86,7 +87,8 @@ left-again vars bounds kept reached left one two made = record {
 
 -- as what comes of a call that may want memory
 pub left-if : {E : Type 0} (vars : ℕ) (bounds reached one two : List Bound) (kept : Option (List Bound))
-    (r : Result (List Bound) E) → IsSmallTable vars bounds → AreKeptIf vars (Some bounds) kept → IsSmallTable vars reached
+    (r : Result (List Bound) E) → IsSmallTable vars bounds → AreKeptIf vars (Some bounds) kept
+    → IsSmallTable vars reached
     → one ≡ unwrap_or kept bounds → two ≡ reached → IfOk r (λ t. AreMade remaining one two t)
     → IfOk r (λ t. IsLeft vars bounds kept reached t)
 left-if vars bounds reached one two None (Ok t) a k b oe te made =

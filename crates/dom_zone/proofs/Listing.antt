@@ -19,7 +19,8 @@ length-number i j (Some c) = go (eqb i j)
 
 length-row : (m : Matrix) (i n : ℕ) → length (row m i n) ≤ n
 length-row m i zero = omega arith
-length-row m i (suc n) = omega (arith, length-append (row m i n) (number i n (m i n)), length-row m i n, length-number i n (m i n))
+length-row m i (suc n) = omega
+    (arith, length-append (row m i n) (number i n (m i n)), length-row m i n, length-number i n (m i n))
 
 length-rows : (m : Matrix) (n k : ℕ) → length (rows m n k) ≤ k * n
 length-rows m n zero = omega arith
@@ -57,4 +58,5 @@ module _ {X : Type 0} (f : Limit → X) (m : Matrix) where
       ∙ sym (map-append f (rows m n k) (row m k n)) ∙ ap (λ j. map f (rows m n j)) (sym (add-one k))
 
   pub rows-room : (n k : ℕ) (out : List X) → out ≡ map f (rows m n k) → n ≤ 64 → k ≤ 64 → length out ≤ 2 ^ 30
-  rows-room n k out is l h = omega (arith, ap length is, length-map (rows m n k) f, length-rows m n k, mul-le k n 64 64 h l)
+  rows-room n k out is l h = omega
+      (arith, ap length is, length-map (rows m n k) f, length-rows m n k, mul-le k n 64 64 h l)

@@ -1,4 +1,7 @@
 -- The images and the joins of zones, as lists.
+-- Index: same-from, same-to, same-closed, same-moved, tight, skip-moved, set-moved, havoc-moved, guard-moved,
+-- guard-none, set-made, havoc-made, read-in, admits-not, number-between, gap-between, met-none, met-right, met-left,
+-- met-both, met-read.
 use Rattle.std.proofs.Common.{◌≡◌, ◌≢◌, ⊎_elim, ◌≤◌, ◌<◌, ◌+◌, ◌^◌, ℕ, suc, ℤ, pos, ◌+ℤ◌, ◌-ℤ◌, ◌≤ℤ◌, ◌<ℤ◌, neg_ℤ, unsigned_abs, Bool, true, false, not, List, Option, Some, None, refl, sym, ap, subst, subst₂, ◌∙◌, add-one, true≢false, arith}
 use Rattle.std.specs.Prelude.{◌↔◌, IsTrue}
 use Rattle.std.proofs.lemmas.Int.{ints}
@@ -103,15 +106,18 @@ module _ (vars n : ℕ) (bounds : List Bound) (small : IsSmallTable vars bounds)
   pub set-made : (op : Op) (v : ℕ) (r : Term) (c : ℤ) (table : List Bound) → Sets v r ≡ op → c ≡ r.add → FitsOp vars op
       → table ≡ table_of n (assigned (matrix_of n bounds) v r.coord c)
       → IsMoved vars op (Some (matrix_in vars bounds)) (Some table)
-  set-made op v r c table e ce on is = subst (λ op. FitsOp vars op → IsMoved vars op (Some (matrix_in vars bounds)) (Some table)) e
+  set-made op v r c table e ce on is = subst
+      (λ op. FitsOp vars op → IsMoved vars op (Some (matrix_in vars bounds)) (Some table)) e
       (λ on. subst (λ t. IsMoved vars (Sets v r) (Some (matrix_in vars bounds)) (Some t))
       (table-for (λ m. assigned m v r.coord r.add) table
       (is ∙ ap (λ c. table_of n (assigned (matrix_of n bounds) v r.coord c)) ce))
       (set-moved vars bounds small v r on)) on
 
   pub havoc-made : (op : Op) (v : ℕ) (table : List Bound) → Havocs v ≡ op → FitsOp vars op
-      → table ≡ table_of n (forgotten (matrix_of n bounds) v) → IsMoved vars op (Some (matrix_in vars bounds)) (Some table)
-  havoc-made op v table e on is = subst (λ op. FitsOp vars op → IsMoved vars op (Some (matrix_in vars bounds)) (Some table)) e
+      → table ≡ table_of n (forgotten (matrix_of n bounds) v) → IsMoved vars op (Some (matrix_in vars bounds))
+      (Some table)
+  havoc-made op v table e on is = subst
+      (λ op. FitsOp vars op → IsMoved vars op (Some (matrix_in vars bounds)) (Some table)) e
       (λ on. subst (λ t. IsMoved vars (Havocs v) (Some (matrix_in vars bounds)) (Some t))
       (table-for (λ m. forgotten m v) table is) (havoc-moved vars bounds small v on)) on
 
@@ -212,7 +218,8 @@ met-both vars bounds others made one two both = record {
     is = made-table most refl (suc vars) bounds others made both one.closed.table two.closed.table
 
     same : (i j : ℕ) → i ≤ vars → j ≤ vars → i ≢ j → u i j ≡ matrix_in vars made i j
-    same i j hi hj ne = sym (made-pair most refl (suc vars) bounds others made both i j (less vars i hi) (less vars j hj) ne)
+    same i j hi hj ne = sym (made-pair most refl (suc vars) bounds others made both i j (less vars i hi)
+        (less vars j hj) ne)
 
     least : (x : Option Matrix) → ((s : State) → InZone vars m s → Has vars x s)
         → ((s : State) → InZone vars w s → Has vars x s) → (s : State) → InZone vars u s → Has vars x s
@@ -221,7 +228,8 @@ met-both vars bounds others made one two both = record {
         two.closed.closed p q s h
 
 pub met-read : (vars : ℕ) (left right : Option (List Bound)) (bounds others one two made : List Bound)
-    → IsSmallIf vars left → IsSmallIf vars right → left ≡ Some bounds → right ≡ Some others → one ≡ bounds → two ≡ others
+    → IsSmallIf vars left → IsSmallIf vars right → left ≡ Some bounds → right ≡ Some others → one ≡ bounds
+    → two ≡ others
     → AreMade most one two made → IsMet vars (matrix_if vars left) (matrix_if vars right) (Some made)
 met-read vars left right bounds others one two made a b e g oe te both =
     subst₂ (λ x y. IsMet vars (matrix_if vars x) (matrix_if vars y) (Some made)) (sym e) (sym g)

@@ -1,4 +1,5 @@
 -- What is made of zones, as the answers of the domain's calls.
+-- Index: moved-answer, met-answer, widened-answer.
 use Rattle.std.proofs.Common.{◌≡◌, ℕ, suc, List, Option, Some, None, refl, sym, ap, subst}
 use Rattle.std.specs.Prelude.{Result, Ok, Err}
 use Rattle.prog_theory.specs.States.{State}
@@ -107,11 +108,13 @@ module _ (x other : ZoneList) (vars : other.vars ≡ x.vars) (made : Option (Lis
   met-answer (Err NoMemory) f = absurd f
 
 -- a zone that is widened by another which leaves it: the kept bounds, and the closed matrix of their zone
-module _ (x next : ZoneList) (same_vars : next.vars ≡ x.vars) (old : Matrix) (old_is : matrix_if x.vars x.bounds ≡ Some old)
+module _ (x next : ZoneList) (same_vars : next.vars ≡ x.vars) (old : Matrix)
+    (old_is : matrix_if x.vars x.bounds ≡ Some old)
     (sound : IsClosed x.vars (InZone x.vars (basis old (matrix_if x.vars x.kept))) old)
     (leaves : ((s : State) → Has x.vars (matrix_if next.vars next.bounds) s → InZone x.vars old s) → ⊥)
     (bounds kept : List Bound) (table : IsTable (suc x.vars) bounds) (kept_table : IsTable (suc x.vars) kept)
-    (stays : IsKept x.vars (Has x.vars (matrix_if next.vars next.bounds)) (basis old (matrix_if x.vars x.kept)) (matrix_in x.vars kept))
+    (stays : IsKept x.vars (Has x.vars (matrix_if next.vars next.bounds)) (basis old (matrix_if x.vars x.kept))
+    (matrix_in x.vars kept))
     (closed : IsClosed x.vars (InZone x.vars (matrix_in x.vars kept)) (matrix_in x.vars bounds)) where
   abbrev widened-is : Widened (zone_of x) (zone_of next) (zone_of (keeping x.vars bounds kept))
   widened-is = record {

@@ -1,4 +1,6 @@
 -- What values of the code are as zones.
+-- Index: list, listed, bottom-sound, top-sound, top-is, fitted-sound, kept-sound, empty-is_bottom, some-not_bottom,
+-- stronger-within, within-stronger, within-none, within-empty, within-both, none-lies, both-lie.
 use Rattle.std.proofs.Common.{◌≡◌, ⊎_elim, ◌≤◌, ◌<◌, ◌+◌, ◌*◌, ◌^◌, ℕ, zero, suc, ℤ, Bool, false, List, length, get_or, replicate, Option, Some, None, refl, sym, ap, subst, subst₂, ◌∙◌, true≢false, arith}
 use Rattle.std.specs.Prelude.{◌↔◌, IsTrue}
 use Rattle.std.proofs.lemmas.Int.{ints}
@@ -87,7 +89,8 @@ kept-sound vars bounds kept l b c w = record {
 
 -- ---- what values tell
 
-pub empty-is_bottom : (vars : ℕ) (kept : Option (List Bound)) → AreKeptIf vars None kept → list vars None kept ≡ empty vars
+pub empty-is_bottom : (vars : ℕ) (kept : Option (List Bound)) → AreKeptIf vars None kept
+    → list vars None kept ≡ empty vars
 empty-is_bottom vars None h = refl
 empty-is_bottom vars (Some kept) h = absurd h
 
@@ -115,10 +118,16 @@ module _ (vars : ℕ) (bounds others : List Bound) (one : IsSmallTable vars boun
   stronger-within h = included-from vars (InZone vars (matrix_in vars bounds)) (matrix_in vars bounds)
       (matrix_in vars others) one.closed.closed (λ s z. z.size)
       (λ i j hi hj ne a k. at-most_below (matrix_in vars bounds i j) (matrix_in vars others i j)
-      (subst (λ x. IsBelow x (matrix_in vars others i j)) (sym (matrix-pair (suc vars) bounds i j (more i hi) (more j hj) ne))
+      (subst (λ x. IsBelow x (matrix_in vars others i j))
+      (sym (matrix-pair (suc vars) bounds i j (more i hi) (more j hj) ne))
       (subst (λ y. IsBelow (get_or bounds (i * suc vars + j) None) y)
       (sym (matrix-pair (suc vars) others i j (more i hi) (more j hj) ne))
-      (h (i * suc vars + j) (omega (arith, mul-add-lt i (suc vars) j (suc vars) (more i hi) (more j hj), one.closed.table.size)))))
+      (h (i * suc vars + j) (omega (
+        arith,
+        mul-add-lt i (suc vars) j (suc vars) (more i hi)
+            (more j hj),
+        one.closed.table.size,
+      )))))
       a k)
     where
       more : (i : ℕ) → i ≤ vars → i < suc vars
@@ -144,7 +153,8 @@ module _ (vars : ℕ) (bounds others : List Bound) (one : IsSmallTable vars boun
 pub within-none : (vars other : ℕ) (kept : Option (List Bound)) (x : Zone) → Within (zone_of (list vars None kept)) x
 within-none vars other kept x s h = absurd h
 
-pub within-empty : (vars other : ℕ) (bounds : List Bound) (kept others_kept : Option (List Bound)) → IsSmallTable vars bounds
+pub within-empty : (vars other : ℕ) (bounds : List Bound) (kept others_kept : Option (List Bound))
+    → IsSmallTable vars bounds
     → Within (zone_of (list vars (Some bounds) kept)) (zone_of (list other None others_kept)) → ⊥
 within-empty vars other bounds kept others_kept small h = let s = small.closed.closed.some in h s.0 s.1
 
@@ -153,7 +163,8 @@ pub within-both : (vars other : ℕ) (bounds others : List Bound) (kept others_k
     → ((k : ℕ) → k < length bounds → IsBelow (get_or bounds k None) (get_or others k None))
     ↔ Within (zone_of (list vars (Some bounds) kept)) (zone_of (list other (Some others) others_kept))
 within-both vars other bounds others kept others_kept e one two =
-    subst (λ d. IsSmallTable d others → ((k : ℕ) → k < length bounds → IsBelow (get_or bounds k None) (get_or others k None))
+    subst (λ d. IsSmallTable d others
+    → ((k : ℕ) → k < length bounds → IsBelow (get_or bounds k None) (get_or others k None))
     ↔ Within (zone_of (list vars (Some bounds) kept)) (zone_of (list d (Some others) others_kept))) e
     (λ small. (stronger-within vars bounds others one small, within-stronger vars bounds others one small)) two
 

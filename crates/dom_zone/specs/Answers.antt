@@ -27,7 +27,8 @@ IsFitted vars made (Err NoMemory) = ⊥
 
 -- the value with kept bounds, or a refusal behind all of them
 abbrev pub IsFittedWith : ℕ → List Bound → List Bound → ℕ → Result ZoneList DomErr → Type 0
-IsFittedWith vars bounds kept count (Ok x) = (x ≡ record { vars = vars; bounds = Some bounds; kept = Some kept }) × AreWithin (2 ^ 40) bounds
+IsFittedWith vars bounds kept count (Ok x) = (x ≡ record { vars = vars; bounds = Some bounds; kept = Some kept })
+    × AreWithin (2 ^ 40) bounds
 IsFittedWith vars bounds kept count (Err (Range (ats.Kept k))) = (k ≡ count) × HasLarge bounds
 IsFittedWith vars bounds kept count (Err (Range ats.Whole)) = ⊥
 IsFittedWith vars bounds kept count (Err (Range (ats.Polar i k))) = ⊥

@@ -20,9 +20,11 @@ pub record IsBasis (vars : ℕ) (kept : List Bound) : Type 0 where
   pub some : (s : State) × InZone vars (matrix_in vars kept) s
 
 -- of the bounds with which the widening begins those that hold on the zone that was reached
-pub record IsLeft (vars : ℕ) (bounds : List Bound) (kept : Option (List Bound)) (reached left : List Bound) : Type 0 where
-  pub begins : IsBasis vars left
-  pub stays : IsKept vars (InZone vars (matrix_in vars reached)) (basis (matrix_in vars bounds) (matrix_if vars kept)) (matrix_in vars left)
+pub record IsLeft (vars : ℕ) (bounds : List Bound) (kept : Option (List Bound)) (reached left : List Bound) : Type 0
+  where
+    pub begins : IsBasis vars left
+    pub stays : IsKept vars (InZone vars (matrix_in vars reached)) (basis (matrix_in vars bounds) (matrix_if vars kept))
+        (matrix_in vars left)
 
 -- the value of the kept bounds, or its refusal
 abbrev pub IsSolved : ℕ → List Bound → Result ZoneList DomErr → Type 0

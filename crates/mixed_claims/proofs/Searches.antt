@@ -1,5 +1,5 @@
 -- What holds of the terms of a list, and of the terms of the code that stand for them.
-use Rattle.std.proofs.Common.{◌≡◌, ◌<◌, ◌≤◌, ◌+◌, ℕ, true, false, List, [], ◌∷◌, map, length, get_or, sym, ap, ◌∙◌, subst, refl, arith}
+use Rattle.std.proofs.Common.{◌≡◌, ◌<◌, ◌+◌, ℕ, true, false, List, [], ◌∷◌, map, length, get_or, sym, ap, ◌∙◌, subst, refl, arith}
 use Rattle.std.specs.Prelude.{◌↔◌, All, Any, IsTrue}
 use Rattle.std.proofs.lemmas.List.{length-map, get_or-map, get_or_default}
 use Rattle.std.proofs.lemmas.List.Elements.{All-map}
@@ -36,11 +36,6 @@ pub each_more_at : {X : Type 0} (P : X → Type 0) (xs : List X) (k : ℕ) (d : 
     → (j : ℕ) (e : X) → j < k + 1 → P (get_or xs j e)
 each_more_at P xs k d l before here =
     each_more P xs k (get_or xs k d) (get_or_default xs k d (get_or xs k d) l) l before here
-
--- where each element has the property
-pub each_found : {X : Type 0} (P : X → Type 0) (xs : List X) (k : ℕ) → length xs ≤ k
-    → ((j : ℕ) (e : X) → j < k → P (get_or xs j e)) → IsTrue true ↔ All P xs
-each_found P xs k past before = (λ t j d l. before j d (omega (arith, l, past)), λ h. refl)
 
 -- an element that has the property
 pub found_at : {X : Type 0} (P : X → Type 0) (xs : List X) (k : ℕ) (d : X) → k < length xs → P (get_or xs k d)

@@ -11,15 +11,27 @@ use Rattle.prog_tree.specs.Terms.{term_of}
 use Rattle.prog_theory.specs.Statements.{Side}
 use Rattle.mixed_theory.specs.Claims.{IsSumBelow, IsOppositeBelow, IsPairBelow, IsEachBelow, IsSomeBelow, IsSideBelow}
 use Rattle.mixed_claims.specs.declared.sums.Reading.TheVariants.{Own, Opposite}
+use Rattle.mixed_claims.specs.Sides.{AreSidesOn}
 use Rattle.mixed_claims.specs.Terms.{read_terms, IsPairOn, IsAlikeBelow, IsMixedBelow}
 use Rattle.mixed_claims.proofs.Readings.{opposites_read}
 use Rattle.mixed_claims.proofs.Searches.{each_mapped, some_mapped}
+
+pub swapped : {V : Type 0} (R : Semiring V) (d : ℕ) (rows : RowList V) (ls rs : List theory.Term)
+    → AreSidesOn R d rows ls rs → AreSidesOn R d rows rs ls
+swapped R d rows ls rs h = record {
+  few = h.few;
+  left_fits = h.right_fits;
+  right_fits = h.left_fits;
+  wide = h.wide;
+  size = h.size;
+}
 
 through : {P Q : Type 0} (b : Bool) → IsTrue b ↔ P → P ↔ Q → IsTrue b ↔ Q
 through b h k = (λ t. k.0 (h.0 t), λ q. h.1 (k.1 q))
 
 module _ {V : Type 0} (R : Semiring V) (N : Numbering V) (d : ℕ) (rows : RowList V) (first second : List Term)
-    (ls rs : List theory.Term) (is_first : map term_of first ≡ ls) (is_second : map term_of second ≡ rs) (b : Bool) where
+    (ls rs : List theory.Term) (is_first : map term_of first ≡ ls) (is_second : map term_of second ≡ rs)
+    (b : Bool) where
   abbrev C : List V → Type 0
   C = IsCombination R rows.n rows.rows
 

@@ -62,8 +62,8 @@ abbrev pub ArePairsBelow : {V : Type 0} → Semiring V → Numbering V → ℕ �
 ArePairsBelow R N d rows Every ls rs = IsEachBelow R N d rows.n (IsCombination R rows.n rows.rows) ls rs
 ArePairsBelow R N d rows One ls rs = IsSomeBelow R N d rows.n (IsCombination R rows.n rows.rows) ls rs
 
--- the pairs that are asked for where the first side is read with this word: some pair shows that its least is at most the
--- greatest of the other, and each pair that its greatest is at most the least
+-- the pairs that are asked for where the first side is read with this word: some pair shows that its least is at most
+-- the greatest of the other, and each pair that its greatest is at most the least
 abbrev pub pairs_for : SideWord → Pairs
 pairs_for Least = One
 pairs_for Greatest = Every

@@ -1,5 +1,5 @@
-//! Claims of a program on variables and their opposites, at the rows of a cone: the opposites of terms, and whether rows
-//! prove a claim, by its sides, by the opposites of its sides, or by pairs of their terms. No call takes memory.
+//! Claims of a program on variables and their opposites, at the rows of a cone: the opposites of terms, and whether
+//! rows prove a claim, by its sides, by the opposites of its sides, or by pairs of their terms. No call takes memory.
 #![tactic(auto)]
 
 mod claims;

@@ -69,7 +69,8 @@ module _ {V : Type 0} {R : Semiring V} {N : Numbering V} (r : ReportOver V) (kep
     wrong_at k x e is l before fails =
         let a = assertion_of x in
         let b = get_or vs k e in
-        let m : k < length (asserts (nameless r.program)) = omega (arith, ap length same, length-map xs assertion_of, l) in
+        let m : k < length (asserts (nameless r.program)) = omega
+        (arith, ap length same, length-map xs assertion_of, l) in
         let n : k < length r.verdicts = omega (arith, verdicts_many, m) in
         record {
           place = k;
@@ -91,7 +92,8 @@ module _ {V : Type 0} {R : Semiring V} {N : Numbering V} (r : ReportOver V) (kep
     right_more k x e is l before here =
         let a = assertion_of x in
         let b = get_or vs k e in
-        let m : k < length (asserts (nameless r.program)) = omega (arith, ap length same, length-map xs assertion_of, l) in
+        let m : k < length (asserts (nameless r.program)) = omega
+        (arith, ap length same, length-map xs assertion_of, l) in
         let n : k < length r.verdicts = omega (arith, verdicts_many, m) in
         zip_more Right (asserts (nameless r.program)) r.verdicts k a b m n
         (at_map assertion_of xs (asserts (nameless r.program)) same k x a l ∙ ap assertion_of (sym is))

@@ -1,4 +1,6 @@
 -- The lists of operations: how wide they are and how large their numbers.
+-- Index: assigned_wide, assigned_small, mapped_few, forgotten_wide, forgotten_small, forgotten_few, guard_small,
+-- number_small, size_read, kept_list, dropped_list, list_wide, inside.
 use Rattle.std.proofs.Common.{◌≡◌, ◌<◌, ◌≤◌, ◌+◌, ◌-◌, inl, inr, ⊎_elim, ℕ, zero, suc, Bool, true, false, List, [], ◌∷◌, ◌++◌, Some, length, map, set, get_or, refl, sym, ap, ◌∙◌, subst, arith}
 use Rattle.std.specs.Prelude.{All, slice_get}
 use Rattle.std.proofs.lemmas.List.{length-set, length-append}
@@ -37,7 +39,8 @@ module _ {V : Type 0} {R : Semiring V} (laws : SemiringLaws R) where
   pub assigned_small : (i from : ℕ) (c : V) (rows outs : List (List V)) (m : ℕ) → rows_size R rows + R.size c ≤ m
       → AreNormalised R (map (assigned R i from c) rows) outs → rows_size R outs ≤ m + m
   assigned_small i from c rows outs m small h =
-      normalised_small laws (map (assigned R i from c) rows) outs m (rows_size-each laws (map (assigned R i from c) rows) m
+      normalised_small laws (map (assigned R i from c) rows) outs m
+      (rows_size-each laws (map (assigned R i from c) rows) m
       (All-map (λ g. row_size R g ≤ m) (assigned R i from c) rows
       (λ k d l. omega (
         arith,
@@ -65,14 +68,16 @@ module _ {V : Type 0} {R : Semiring V} (laws : SemiringLaws R) where
   cleared_small : (i : ℕ) (rows front : List (List V)) (m : ℕ) → rows_size R rows ≤ m
       → AreNormalised R (map (λ g. set g i R.zero) rows) front → rows_size R front ≤ m + m
   cleared_small i rows front m small h =
-      normalised_small laws (map (λ g. set g i R.zero) rows) front m (rows_size-each laws (map (λ g. set g i R.zero) rows) m
+      normalised_small laws (map (λ g. set g i R.zero) rows) front m
+      (rows_size-each laws (map (λ g. set g i R.zero) rows) m
       (All-map (λ g. row_size R g ≤ m) (λ g. set g i R.zero) rows
       (λ k d l. omega (arith, row_size-cleared laws (get_or rows k d) i, All-rows_size laws rows m small k d l)))) h
 
   pub forgotten_wide : (n i : ℕ) (rows front outs : List (List V)) → i < n → AreWide n rows
       → AreNormalised R (map (λ g. set g i R.zero) rows) front → outs ≡ front ++ unit_row R n i ∷ [] → AreWide n outs
   forgotten_wide n i rows front outs l w h e =
-      subst (AreWide n) (sym e) (All-append (λ g. length g ≡ n) front (unit_row R n i ∷ []) (cleared_wide n i rows front w h)
+      subst (AreWide n) (sym e) (All-append (λ g. length g ≡ n) front (unit_row R n i ∷ [])
+      (cleared_wide n i rows front w h)
       (All-cons (λ g. length g ≡ n) (unit_row R n i) [] (IsUnit-set R n i l).wide (All-nil (λ g. length g ≡ n))))
 
   pub forgotten_small : (n i : ℕ) (rows front outs : List (List V)) (m : ℕ) → rows_size R rows ≤ m
@@ -87,7 +92,8 @@ module _ {V : Type 0} {R : Semiring V} (laws : SemiringLaws R) where
             (omega (arith, laws.size_one)),
       )))
 
-  pub forgotten_few : (n i : ℕ) (rows front outs : List (List V)) → AreNormalised R (map (λ g. set g i R.zero) rows) front
+  pub forgotten_few : (n i : ℕ) (rows front outs : List (List V))
+      → AreNormalised R (map (λ g. set g i R.zero) rows) front
       → outs ≡ front ++ unit_row R n i ∷ [] → length outs ≤ length rows + 1
   forgotten_few n i rows front outs h e = omega (
     arith,
@@ -164,7 +170,8 @@ module _ {V : Type 0} {R : Semiring V} {N : Numbering V} {reversed : Bool} (laws
       let e = one_less n l in
       subst (λ k. IsEdgeList R N reversed k op rows moved) (sym e)
       (kept_by (n - 1) op rows moved f (subst (λ k. AreWide k rows) e w)
-      (subst (λ k. IsMovedList R N reversed k op rows moved) e h) (subst (λ k. HasPoint R (IsCombination R k moved)) e p))
+      (subst (λ k. IsMovedList R N reversed k op rows moved) e h)
+      (subst (λ k. HasPoint R (IsCombination R k moved)) e p))
 
   pub dropped_list : (n : ℕ) → 1 ≤ n → (op : Op) (rows moved outs : List (List V)) → FitsOp (n - 1) op → AreWide n rows
       → IsMovedList R N reversed n op rows moved → (HasPoint R (IsCombination R n moved) → ⊥) → outs ≡ []
@@ -204,6 +211,8 @@ module _ {V : Type 0} {R : Semiring V} {N : Numbering V} {reversed : Bool} (laws
       → (x : List V) → InImage R N reversed n op (IsCombination R n rows) x → IsCombination R n target x
   inside n l op rows list target f w t h all =
       let e = one_less n l in
-      subst (λ k. (x : List V) → InImage R N reversed k op (IsCombination R k rows) x → IsCombination R k target x) (sym e)
+      subst (λ k. (x : List V) → InImage R N reversed k op (IsCombination R k rows) x → IsCombination R k target x)
+      (sym e)
       (inside_by (n - 1) op rows list target f (subst (λ k. AreWide k rows) e w) (subst (λ k. AreWide k target) e t)
-      (subst (λ k. IsEdgeList R N reversed k op rows list) e h) (subst (λ k. All (IsCombination R k target) list) e all))
+      (subst (λ k. IsEdgeList R N reversed k op rows list) e h)
+      (subst (λ k. All (IsCombination R k target) list) e all))

@@ -1,25 +1,15 @@
 -- Searches for the first element of a list that lacks a property.
-use Rattle.std.proofs.Common.{◌≡◌, ◌<◌, ◌≤◌, ◌+◌, ⊎_elim, ℕ, zero, suc, List, [], ◌∷◌, Some, None, Ok, Err, Option, Result, length, take, get_or, sym, ap, ◌∙◌, subst, arith}
+use Rattle.std.proofs.Common.{◌≡◌, ◌<◌, ◌≤◌, ◌+◌, ℕ, zero, suc, List, [], ◌∷◌, Some, None, Ok, Err, Option, Result, length, take, get_or, sym, ap, ◌∙◌, subst, arith}
 use Rattle.std.specs.Prelude.{All, slice_get, MatchOption, IfOk}
-use Rattle.std.proofs.lemmas.Bool.{cases_lt}
-use Rattle.std.proofs.lemmas.List.{length-take-le, get_or-take, get_or_default}
+use Rattle.std.proofs.lemmas.List.{length-take-le, get_or-take}
 use Rattle.std.proofs.lemmas.Option.{get_or_from_slice_get, slice_get_within}
 use Rattle.cone_reports.specs.Verdicts.{IsFirstWithout}
+use Rattle.cone_claims.proofs.Loops.{each_more}
 
 pub get_at : {X : Type 0} (xs : List X) (k : ℕ) (x : X) → x ≡ get_or xs k x → k < length xs → slice_get xs k ≡ Some x
 get_at [] k x e l = absurd (omega arith)
 get_at (y ∷ xs) zero x e l = ap Some (sym e)
 get_at (y ∷ xs) (suc k) x e l = get_at xs k x e (omega arith)
-
--- what holds of the elements before a place and of the element there
-pub each_more : {X : Type 0} (P : X → Type 0) (xs : List X) (k : ℕ) (x : X) → x ≡ get_or xs k x → k < length xs
-    → ((j : ℕ) (d : X) → j < k → P (get_or xs j d)) → P x → (j : ℕ) (d : X) → j < k + 1 → P (get_or xs j d)
-each_more P xs k x is l before here j d m = ⊎_elim
-    (λ lt. before j d lt)
-    (λ le.
-    let same : k ≡ j = omega arith in
-    subst (λ i. P (get_or xs i d)) same (subst P (is ∙ sym (get_or_default xs k d x l)) here))
-    (cases_lt j k)
 
 taken : {X : Type 0} (P : X → Type 0) (xs : List X) (k : ℕ) → k ≤ length xs
     → ((j : ℕ) (d : X) → j < k → P (get_or xs j d)) → All P (take k xs)

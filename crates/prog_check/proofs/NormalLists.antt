@@ -1,5 +1,5 @@
 -- Lists of rows in normal form, made one row after another.
-use Rattle.std.proofs.Common.{◌≡◌, ◌≢◌, ◌<◌, ◌≤◌, ◌+◌, ℕ, List, [], ◌∷◌, ◌++◌, length, map, take, get_or, refl, sym, ap, ◌∙◌, subst, arith}
+use Rattle.std.proofs.Common.{◌≡◌, ◌≢◌, ◌<◌, ◌≤◌, ◌+◌, ℕ, List, [], ◌∷◌, ◌++◌, length, map, take, get_or, set, refl, sym, ap, ◌∙◌, subst, arith}
 use Rattle.std.specs.Prelude.{All}
 use Rattle.std.specs.List.{AllZip}
 use Rattle.std.proofs.lemmas.List.{take_more, take_all}
@@ -9,7 +9,7 @@ use Rattle.trop_theory.specs.Vectors.{bottom, row_size, rows_size}
 use Rattle.trop_theory.specs.Normal.{Normalises}
 use Rattle.trop_theory.proofs.StepLists.{chosen_push, chosen_skip, length_chosen, from_chosen}
 use Rattle.trop_row.proofs.NormalSteps.{size_normalised}
-use Rattle.trop_cones.proofs.Sizes.{rows_size-each, All-rows_size}
+use Rattle.trop_cones.proofs.Sizes.{rows_size-each, All-rows_size, row_size-set}
 use Rattle.plain_lemmas.proofs.Lists.{back_in_zip}
 use Rattle.cone_reports.specs.EdgeLists.{AreNormalised}
 use Rattle.cone_reports.proofs.Normalised.{normalised_not_bottom}
@@ -32,6 +32,15 @@ length-zip Q (a ∷ xs) [] h = absurd h
 length-zip Q (a ∷ xs) (b ∷ ys) h = let r = length-zip Q xs ys h.1 in omega (arith, r)
 
 module _ {V : Type 0} {R : Semiring V} (laws : SemiringLaws R) where
+  -- a copy of a row with one entry changed
+  pub changed_small : (row copy out : List V) (i : ℕ) (v : V) (most : ℕ) → copy ≡ row → out ≡ set copy i v
+      → row_size R row ≤ most → R.size v ≤ most → row_size R out ≤ most
+  changed_small row copy out i v most same changed small value = omega (
+    arith,
+    ap (row_size R) changed,
+    row_size-set laws copy i v most (omega (arith, ap (row_size R) same, small)) value,
+  )
+
   pub normalised_first : AreNormalised R [] []
   normalised_first = record { finite = []; chosen = refl; each = tt }
 

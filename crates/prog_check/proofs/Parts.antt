@@ -1,4 +1,6 @@
 -- What a report keeps, as the loops over its edges, points and asserts need it.
+-- Index: normal_rows_finite, stays_by_rows, leaves_by_rows, valid_by_rows, invalid_by_rows, right_by_rows, width_is,
+-- edges_few, edge_from, edge_to, edge_fits, edge_fits_in, edge_numbers, points_few, some_point, part_is.
 use Rattle.std.proofs.Common.{◌≡◌, ◌≢◌, ◌<◌, ◌≤◌, ◌+◌, ◌-◌, ℕ, Bool, Option, List, Some, length, map, get_or, sym, ap, ◌∙◌, subst, subst₂, arith, Contains}
 use Rattle.std.specs.Prelude.{All, slice_get, true, IsTrue, ◌↔◌, MatchOption}
 use Rattle.std.proofs.lemmas.Option.{get_or_from_slice_get}
@@ -52,7 +54,8 @@ module _ {V : Type 0} (R : Semiring V) (N : Numbering V) (reversed : Bool) (repo
       → ((x : List V) → InImage R N reversed n e.op (IsCombination R n source) x → IsCombination R n target x)
       → StaysAlong R N reversed report e
   stays_by_rows e source target f t h =
-      subst₂ (λ s q. (x : List V) → InImage R N reversed (coordinates report) e.op (IsCombination R (coordinates report) s) x
+      subst₂ (λ s q. (x : List V) → InImage R N reversed (coordinates report) e.op
+      (IsCombination R (coordinates report) s) x
       → IsCombination R (coordinates report) q x) (sym f) (sym t)
       (subst (λ k. (x : List V) → InImage R N reversed k e.op (IsCombination R k source) x → IsCombination R k target x)
       (sym width) h)
@@ -142,7 +145,8 @@ module _ {V : Type 0} {R : Semiring V} {N : Numbering V} (r : ReportOver V) (kep
         → Leaves R N reversed (said r) e row → StaysAlong R N reversed (said r) e → ⊥
     leaves_fails e c row leaves stays =
         let inside = image_within_by_list laws numbers (length r.program.names) e.op (edge_fits e c)
-        (part_at (said r) e.from).rows leaves.list (part_at (said r) e.to).rows (HasWideRows-kept R N r kept e.from) (HasWideRows-kept R N r kept e.to) leaves.is_list in
+        (part_at (said r) e.from).rows leaves.list (part_at (said r) e.to).rows (HasWideRows-kept R N r kept e.from)
+        (HasWideRows-kept R N r kept e.to) leaves.is_list in
         leaves.first.lacks (All-contains (cone_at R (said r) e.to) leaves.list row (inside.0 stays)
         (get_contains leaves.list leaves.place row leaves.first.at))
 

@@ -31,7 +31,8 @@ module _ {X Y : Type 0} (f : X → Y) (xs : List X) (ys : List Y) (same : map f 
 
   -- an element of the other list
   pub mapped_in : (k : ℕ) (d : X) → k < length xs → Contains ys (f (get_or xs k d))
-  mapped_in k d l = subst (Contains ys) (at_map k d (f d) l) (Contains-get_or ys k (f d) (omega (arith, same_length, l)))
+  mapped_in k d l = subst (Contains ys) (at_map k d (f d) l)
+      (Contains-get_or ys k (f d) (omega (arith, same_length, l)))
 
   -- the element at the place is the first that lacks the property
   pub mapped_first : (P : Y → Type 0) (k : ℕ) (d : X) → k < length xs

@@ -1,4 +1,5 @@
 pub mod Limits
+pub mod Movable
 pub mod Firsts
 pub mod Found
 pub mod Views

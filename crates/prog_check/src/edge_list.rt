@@ -1,13 +1,10 @@
 //! The list of an edge.
-ghost use Rattle.std.specs.Prelude.{◌≡◌, ◌≢◌, ◌-◌, ◌≤◌, IfOk, All, length};
-ghost use Rattle.trop_theory.specs.Vectors.{bottom, rows_size};
+ghost use Rattle.std.specs.Prelude.{◌≡◌, ◌≤◌, IfOk};
+ghost use Rattle.trop_theory.specs.Vectors.{rows_size};
 ghost use Rattle.trop_theory.specs.Sizes.{most_entry};
-ghost use Rattle.prog_theory.specs.Each.{EachOp};
-ghost use Rattle.prog_theory.specs.Fits.{FitsOp};
-ghost use Rattle.prog_theory.specs.Within.{IsNumberWithin};
 ghost use Rattle.prog_graph.specs.Views.{op_of};
 ghost use Rattle.cone_reports.specs.EdgeLists.{IsEdgeList};
-ghost use Rattle.prog_check.specs.Limits.{most_row, most_rows, most_add};
+ghost use Rattle.prog_check.specs.Movable.{IsMovable};
 
 use crate::moved::moved_list;
 use cone_claims::has_point;
@@ -24,11 +21,7 @@ pub(crate) fn edge_list<S: Numeric>(
     gens: &Gens<S>,
     op: &Op,
 ) -> Result<Gens<S>, NoMemory>
-    requires fits { FitsOp (gens.now.n - 1) (op_of op.now) }
-    requires numbers { EachOp (λ x. Unit {0}) (IsNumberWithin most_add) (op_of op.now) }
-    requires few { length gens.now.rows ≤ most_rows }
-    requires size { rows_size S.ring gens.now.rows ≤ most_row }
-    requires finite { All (λ row. row ≢ bottom S.ring gens.now.n) gens.now.rows }
+    requires movable { IsMovable S.ring gens.now.n (op_of op.now) gens.now.rows }
     ensures width { IfOk result (λ out. out.n ≡ gens.now.n) }
     ensures list { IfOk result (λ out. IsEdgeList S.ring S.numbering S.REVERSED gens.now.n (op_of op.now)
         gens.now.rows out.rows) }

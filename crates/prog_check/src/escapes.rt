@@ -1,17 +1,15 @@
 //! Whether an edge leads out of the cone at its last point.
-ghost use Rattle.std.specs.Prelude.{◌≡◌, ◌≢◌, ◌-◌, ◌≤◌, ℕ, List, All, IfOk, MatchOption, length};
-ghost use Rattle.trop_theory.specs.Vectors.{bottom, rows_size, AreWide};
+ghost use Rattle.std.specs.Prelude.{◌≡◌, ◌≤◌, ℕ, List, All, IfOk, MatchOption};
+ghost use Rattle.trop_theory.specs.Vectors.{rows_size, AreWide};
 ghost use Rattle.trop_theory.specs.Combinations.{IsCombination};
 ghost use Rattle.trop_theory.specs.Sizes.{most_entry};
-ghost use Rattle.prog_theory.specs.Each.{EachOp};
-ghost use Rattle.prog_theory.specs.Fits.{FitsOp};
-ghost use Rattle.prog_theory.specs.Within.{IsNumberWithin};
 ghost use Rattle.prog_graph.specs.Views.{op_of};
 ghost use Rattle.cone_reports.specs.EdgeLists.{IsEdgeList};
 ghost use Rattle.cone_reports.specs.Images.{InImage};
 ghost use Rattle.cone_reports.specs.Verdicts.{IsFirstWithout};
-ghost use Rattle.prog_check.specs.Limits.{most_row, most_rows, most_add};
+ghost use Rattle.prog_check.specs.Limits.{most_row};
 ghost use Rattle.prog_check.specs.Firsts.{HasFirst, IsOutside};
+ghost use Rattle.prog_check.specs.Movable.{IsMovable};
 
 use crate::edge_list::edge_list;
 use prog_graph::Op;
@@ -51,11 +49,7 @@ pub(crate) fn escape<S: Numeric>(
     target: &Gens<S>,
 ) -> Result<Option<Row<S>>, NoMemory>
     requires width { target.now.n ≡ source.now.n }
-    requires fits { FitsOp (source.now.n - 1) (op_of op.now) }
-    requires numbers { EachOp (λ x. Unit {0}) (IsNumberWithin most_add) (op_of op.now) }
-    requires few { length source.now.rows ≤ most_rows }
-    requires size { rows_size S.ring source.now.rows ≤ most_row }
-    requires finite { All (λ row. row ≢ bottom S.ring source.now.n) source.now.rows }
+    requires movable { IsMovable S.ring source.now.n (op_of op.now) source.now.rows }
     requires target_size { rows_size S.ring target.now.rows ≤ most_row }
     ensures { IfOk result (λ found. MatchOption found
         ((x : List S) → InImage S.ring S.numbering S.REVERSED source.now.n (op_of op.now)

@@ -4,14 +4,14 @@ ghost use Rattle.trop_theory.specs.Vectors.{bottom, entry, row_size, rows_size, 
 ghost use Rattle.trop_theory.specs.StepList.{IsStepList};
 ghost use Rattle.trop_theory.specs.Sizes.{most_entry, most_scaled};
 ghost use Rattle.trop_cones.specs.Sets.{assigned};
-ghost use Rattle.prog_theory.specs.Each.{EachOp};
-ghost use Rattle.prog_theory.specs.Fits.{FitsTerm, FitsOp};
+ghost use Rattle.prog_theory.specs.Fits.{FitsTerm};
 ghost use Rattle.prog_theory.specs.Within.{IsNumberWithin};
 ghost use Rattle.prog_tree.specs.Terms.{term_of};
 ghost use Rattle.prog_graph.specs.Views.{op_of};
 ghost use Rattle.cone_reports.specs.Sides.{guard_inequality};
 ghost use Rattle.cone_reports.specs.EdgeLists.{AreNormalised, unit_row, IsMovedList};
 ghost use Rattle.prog_check.specs.Limits.{most_row, most_rows, most_add};
+ghost use Rattle.prog_check.specs.Movable.{IsMovable};
 
 use cone_claims::guard_inequality;
 use prog_graph::Op;
@@ -211,11 +211,7 @@ pub(crate) fn moved_list<S: Numeric>(
     gens: &Gens<S>,
     op: &Op,
 ) -> Result<Gens<S>, NoMemory>
-    requires fits { FitsOp (gens.now.n - 1) (op_of op.now) }
-    requires numbers { EachOp (λ x. Unit {0}) (IsNumberWithin most_add) (op_of op.now) }
-    requires few { length gens.now.rows ≤ most_rows }
-    requires size { rows_size S.ring gens.now.rows ≤ most_row }
-    requires finite { All (λ row. row ≢ bottom S.ring gens.now.n) gens.now.rows }
+    requires movable { IsMovable S.ring gens.now.n (op_of op.now) gens.now.rows }
     ensures width { IfOk result (λ out. out.n ≡ gens.now.n) }
     ensures list { IfOk result (λ out. IsMovedList S.ring S.numbering S.REVERSED gens.now.n (op_of op.now)
         gens.now.rows out.rows) }

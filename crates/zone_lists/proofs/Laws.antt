@@ -24,7 +24,8 @@ zone_lists_laws = record {
     widened = λ x next y h e. zones_laws.vars.widened (zone_of x) (zone_of next) (zone_of y) h.0 e;
   };
   one = record {
-    applied = λ op x y z p q. values-same y z p.1 q.1 (zones_laws.one.applied op (zone_of x) (zone_of y) (zone_of z) p.0 q.0);
+    applied = λ op x y z p q. values-same y z p.1 q.1
+        (zones_laws.one.applied op (zone_of x) (zone_of y) (zone_of z) p.0 q.0);
     joined = λ x other y z p q. values-same y z p.1 q.1
         (zones_laws.one.joined (zone_of x) (zone_of other) (zone_of y) (zone_of z) p.0 q.0);
     widened = λ x next y z p q. values-same y z p.1 q.1

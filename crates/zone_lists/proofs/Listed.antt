@@ -88,7 +88,8 @@ pub list-listed : (x : Zone) → IsListed (list_of x)
 list-listed x = record { bounds = tables-listed x.vars x.bounds; kept = tables-listed x.vars x.kept }
 
 pub list-zone : (x : Zone) → IsNormalIf x.vars x.bounds → IsNormalIf x.vars x.kept → zone_of (list_of x) ≡ x
-list-zone x b k = ap (λ bounds. with bounds (matrix_if x.vars (table_if x.vars x.kept))) (tables-matrix x.vars x.bounds b)
+list-zone x b k = ap (λ bounds. with bounds (matrix_if x.vars (table_if x.vars x.kept)))
+    (tables-matrix x.vars x.bounds b)
     ∙ ap (λ kept. with x.bounds kept) (tables-matrix x.vars x.kept k)
   where
     with : Option Matrix → Option Matrix → Zone

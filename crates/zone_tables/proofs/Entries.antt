@@ -23,7 +23,8 @@ pub forgot-column : (m : Matrix) (v i j : ℕ) → i ≢ v → j ≡ v → None 
 forgot-column m v i j ne e = sym (ap (λ b. cond b None (cond (j == v) None (m i j))) (eqb_apart i v ne)
     ∙ ap (λ k. cond (j == k) None (m i j)) (sym e) ∙ ap (λ b. cond b None (m i j)) (eqb_same j))
 
-pub forgot-other : (m : Matrix) (v i j : ℕ) (b : Bound) → i ≢ v → j ≢ v → i ≢ j → b ≡ entry m i j → b ≡ forgotten m v i j
+pub forgot-other : (m : Matrix) (v i j : ℕ) (b : Bound) → i ≢ v → j ≢ v → i ≢ j → b ≡ entry m i j
+    → b ≡ forgotten m v i j
 forgot-other m v i j b ni nj ne e = e ∙ entry-apart m i j ne
     ∙ sym (ap (λ b. cond b None (cond (j == v) None (m i j))) (eqb_apart i v ni)
     ∙ ap (λ b. cond b None (m i j)) (eqb_apart j v nj))
@@ -57,7 +58,8 @@ added-read m i j c k l b d e x y r be xe de ye ee re = re ∙ ap (λ z. least z 
     ∙ ap (least (entry m k l)) (ye ∙ ap (λ z. plus z d) (xe ∙ ap (λ z. plus z (Some c)) be)
     ∙ ap (plus (plus (entry m k i) (Some c))) de)
 
-pub passed-read : (m : Matrix) (k i j : ℕ) (b d e y r : Bound) → i ≢ j → b ≡ entry m i k → d ≡ entry m k j → y ≡ plus b d
+pub passed-read : (m : Matrix) (k i j : ℕ) (b d e y r : Bound) → i ≢ j → b ≡ entry m i k → d ≡ entry m k j
+    → y ≡ plus b d
     → e ≡ entry m i j → r ≡ least e y → r ≡ apart (passed m k) i j
 passed-read m k i j b d e y r ne be de ye ee re = apart-other (passed m k) i j r ne (re ∙ ap (λ z. least z y) ee
     ∙ ap (least (entry m i j)) (ye ∙ ap (λ z. plus z d) be ∙ ap (plus (entry m i k)) de))

@@ -1,4 +1,6 @@
 -- Lists that stand for matrices.
+-- Index: matrix-pair, matrix-normal, IsPlace, place-of, each-cell, matrix-each, length-rows, rows-at, table-is,
+-- table-pair, free-table, free-matrix, made-table, made-pair, entry-read, row-more, row-start, rows-more.
 use Rattle.std.proofs.Common.{◌≡◌, ◌≢◌, ◌⊎◌, inl, inr, ⊎_elim, ◌<◌, ◌≤◌, ◌+◌, ◌-◌, ◌*◌, ◌/◌, ◌%◌, ◌==◌, ℕ, zero, suc, Bool, true, false, cond, List, [], ◌∷◌, ◌++◌, length, get_or, replicate, Option, Some, None, refl, sym, ap, subst, ◌∙◌, add-one, arith}
 use Rattle.std.specs.Prelude.{ltb}
 use Rattle.std.proofs.lemmas.Bool.{cases_lt, lt-ltb, le-ltb}
@@ -26,7 +28,9 @@ matrix-normal d bounds = record { none = λ i j out. at i j out }
     at : (i j : ℕ) → (i ≤ d → j ≤ d → i ≢ j → ⊥)
         → cond (i == j) None (cond (ltb i (suc d)) (cond (ltb j (suc d)) (cell_at (suc d) bounds i j) None) None) ≡ None
     at i j out = ⊎_elim
-        (λ e. subst (λ k. cond (i == k) None (cond (ltb i (suc d)) (cond (ltb k (suc d)) (cell_at (suc d) bounds i k) None) None) ≡ None) e (rw (eqb_same i) refl))
+        (λ e. subst (λ k. cond (i == k) None
+        (cond (ltb i (suc d)) (cond (ltb k (suc d)) (cell_at (suc d) bounds i k) None) None) ≡ None) e
+        (rw (eqb_same i) refl))
         (λ ne. rw (eqb_apart i j ne) (⊎_elim
         (λ hi. rw (lt-ltb i (suc d) hi) (⊎_elim
         (λ hj. absurd (out (omega (arith, hi)) (omega (arith, hj)) ne))
@@ -158,7 +162,8 @@ entry-read n bounds i j b hi hj ne is size = is ∙ get_or_default' ∙ sym (mat
 -- one bound more of a row, and one row more
 pub row-more : (m : Matrix) (i n : ℕ) (start out new : List Bound) (b : Bound) → out ≡ start ++ row_of m i n
     → b ≡ m i n → new ≡ out ++ b ∷ [] → new ≡ start ++ row_of m i (n + 1)
-row-more m i n start out new b before is e = e ∙ ap (λ o. o ++ b ∷ []) before ∙ append_assoc start (row_of m i n) (b ∷ [])
+row-more m i n start out new b before is e = e ∙ ap (λ o. o ++ b ∷ []) before ∙ append_assoc start (row_of m i n)
+    (b ∷ [])
     ∙ ap (λ x. start ++ (row_of m i n ++ x ∷ [])) is ∙ ap (λ k. start ++ row_of m i k) (sym (add-one n))
 
 pub row-start : (m : Matrix) (i : ℕ) (start : List Bound) → start ≡ start ++ row_of m i 0

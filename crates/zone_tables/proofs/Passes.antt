@@ -1,4 +1,5 @@
 -- A pass keeps the zone, and after all passes the matrix is closed.
+-- Index: passed-zone, zone-passed, through-shortest, pass-more, pass-none, pass-all, pass-within, pass-step.
 use Rattle.std.proofs.Common.{◌≡◌, ◌≢◌, ◌⊎◌, inl, inr, ⊎_elim, ◌<◌, ◌≤◌, ◌+◌, ◌*◌, ◌^◌, ℕ, zero, suc, ℤ, pos, ◌+ℤ◌, ◌-ℤ◌, ◌≤ℤ◌, List, Option, Some, None, get_or, add-one, refl, sym, ap, subst, ◌∙◌, arith}
 use Rattle.std.proofs.lemmas.Int.{ints, clamps}
 use Rattle.std.proofs.lemmas.Bool.{cases_lt}
@@ -147,7 +148,10 @@ module _ (d : ℕ) (m : Matrix) (k : ℕ) (hk : k ≤ d) where
         (cases_lt p k)
 
 pub through-shortest : (d : ℕ) (m : Matrix) → Through d m (suc d) → IsShortest d m
-through-shortest d m t = record { triangle = λ i k j hi hk hj a b ha hb. t k i j (omega (arith, hk)) hk hi hj a b ha hb }
+through-shortest d m t = record {
+  triangle = λ i k j hi hk hj a b ha hb. t k i j (omega (arith, hk)) hk hi hj a b ha
+      hb;
+}
 
 -- matrices with equal bounds
 Through-same : (d : ℕ) (m u : Matrix) (k : ℕ) → ((i j : ℕ) → i ≤ d → j ≤ d → i ≢ j → m i j ≡ u i j) → Through d m k
@@ -175,7 +179,8 @@ double k = let e : 40 + suc k ≡ suc (40 + k) = omega arith in omega (arith, po
 module _ (d : ℕ) (old : List Bound) (k : ℕ) (hk : k ≤ d) (bounds : List Bound) (s : State)
     (z : InZone d (matrix_of (suc d) old) s) where
   same_zone : (i j : ℕ) → i ≤ d → j ≤ d → i ≢ j
-      → passed (matrix_of (suc d) bounds) k i j ≡ matrix_of (suc d) (table_of (suc d) (passed (matrix_of (suc d) bounds) k)) i j
+      → passed (matrix_of (suc d) bounds) k i j ≡ matrix_of (suc d)
+      (table_of (suc d) (passed (matrix_of (suc d) bounds) k)) i j
   same_zone i j hi hj ne = sym (table-pair (suc d) (passed (matrix_of (suc d) bounds) k) i j (omega (arith, hi))
       (omega (arith, hj)) ne)
 

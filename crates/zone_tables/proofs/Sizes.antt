@@ -51,7 +51,8 @@ pub read-within : (most limit n : ℕ) (bounds : List Bound) (i j : ℕ) (b : Bo
 read-within most limit n bounds i j b e within hi hj l = subst (IsWithin limit) (sym e)
     (within-more most limit (entry (matrix_of n bounds) i j) l (entry-within most n bounds within i j hi hj))
 
-pub sum-within : (most limit : ℕ) (a b r : Bound) → r ≡ plus a b → IsWithin most a → IsWithin most b → most + most ≤ limit
+pub sum-within : (most limit : ℕ) (a b r : Bound) → r ≡ plus a b → IsWithin most a → IsWithin most b
+    → most + most ≤ limit
     → IsWithin limit r
 sum-within most limit a b r e h k l = subst (IsWithin limit) (sym e)
     (within-more (most + most) limit (plus a b) l (plus-within most most a b h k))

@@ -24,7 +24,8 @@ rows-le m n k = total-bound (λ i. total (cell m i) n) n k (λ i l. row-le m i n
 
 -- the weight of a bound that was read
 pub cell-same : (m : Matrix) (i j : ℕ) → i ≡ j → 0 ≡ cell m i j
-cell-same m i j e = sym (ap (λ k. cond (i == k) 0 (weight (m i k))) (sym e) ∙ ap (λ b. cond b 0 (weight (m i i))) (eqb_same i))
+cell-same m i j e = sym (ap (λ k. cond (i == k) 0 (weight (m i k))) (sym e) ∙ ap (λ b. cond b 0 (weight (m i i)))
+    (eqb_same i))
 
 pub cell-none : (m : Matrix) (i j : ℕ) → (i ≡ j → ⊥) → None ≡ entry m i j → 0 ≡ cell m i j
 cell-none m i j ne e = sym (ap (λ b. cond b 0 (weight (m i j))) (eqb_apart i j ne)

@@ -1,5 +1,5 @@
-//! The matrices that come of a closed one by forgetting a coordinate, by an assignment and by one more bound. Each takes
-//! time in the square of the coordinates.
+//! The matrices that come of a closed one by forgetting a coordinate, by an assignment and by one more bound. Each
+//! takes time in the square of the coordinates.
 ghost use Rattle.std.specs.Prelude.{◌≡◌, ◌≢◌, ◌*◌, ◌^◌, ◌<◌, ◌≤◌, ◌++◌, length, OnOk, IfOk};
 ghost use Rattle.zone_theory.specs.Assigning.{source, shift, assigned};
 ghost use Rattle.zone_theory.specs.Adding.{added};

@@ -1,5 +1,6 @@
-//! The closed matrix of bounds that have a state: each way over a coordinate is looked at in the pass of that coordinate,
-//! so it takes time in the cube of the coordinates. A pass at most doubles the numbers, which is why bounds have 128 bits.
+//! The closed matrix of bounds that have a state: each way over a coordinate is looked at in the pass of that
+//! coordinate, so it takes time in the cube of the coordinates. A pass at most doubles the numbers, which is why bounds
+//! have 128 bits.
 ghost use Rattle.std.specs.Prelude.{◌≡◌, ℕ, ◌*◌, ◌^◌, ◌<◌, ◌≤◌, ◌++◌, suc, length, OnOk, IfOk};
 ghost use Rattle.prog_theory.specs.States.{State};
 ghost use Rattle.zone_theory.specs.Matrices.{InZone};

@@ -1,6 +1,6 @@
-//! Matrices of bounds of differences in lists, row by row: those that come of a closed one by an operation of a program,
-//! the join of two, the bounds of one that hold on another, and the closed matrix of bounds that have a state. A bound is a
-//! number or none, and a matrix has none where its two coordinates are equal.
+//! Matrices of bounds of differences in lists, row by row: those that come of a closed one by an operation of a
+//! program, the join of two, the bounds of one that hold on another, and the closed matrix of bounds that have a state.
+//! A bound is a number or none, and a matrix has none where its two coordinates are equal.
 #![tactic(auto)]
 
 mod bounds;

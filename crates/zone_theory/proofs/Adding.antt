@@ -1,4 +1,5 @@
 -- One more bound: the new matrix is shortest, and its zone has the states of the old one that keep the bound.
+-- Index: Via, admits-decided, none-added, added-cases, added-old, added-shortest, added-zone, zone-added.
 use Rattle.std.proofs.Common.{◌≡◌, ◌⊎◌, inl, inr, ⊎_elim, ◌≤◌, ℕ, ℤ, pos, ◌+ℤ◌, ◌-ℤ◌, ◌≤ℤ◌, ◌<ℤ◌, Some, None, refl, sym, subst, arith}
 use Rattle.std.proofs.lemmas.Int.{ints}
 use Rattle.prog_theory.specs.States.{State, coordinate}

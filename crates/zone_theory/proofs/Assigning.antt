@@ -1,4 +1,5 @@
 -- The matrix of an assignment has exactly the states that the assignment gives.
+-- Index: assigned-shortest, assigned-from, from-assigned.
 use Rattle.std.proofs.Common.{◌≡◌, ◌≢◌, ⊎_elim, ◌≤◌, ℕ, ℤ, pos, ◌+ℤ◌, ◌-ℤ◌, ◌≤ℤ◌, cond, length, Some, sym, ap, subst, ◌∙◌, arith}
 use Rattle.std.proofs.lemmas.Int.{ints}
 use Rattle.prog_theory.specs.States.{State, Term, coordinate, value, changed}

@@ -1,4 +1,5 @@
 -- A claim that is proved on a zone is true at each of its states: sides have values, and pairs of terms relate them.
+-- Index: Compared-weaker, proved-true.
 use Rattle.std.proofs.Common.{◌≡◌, ⊎_elim, ℕ, ◌≤ℤ◌, ℤ, List, [], ◌∷◌, All, Any, Option, Some, None, refl, sym, subst, arith}
 use Rattle.std.proofs.lemmas.List.Elements.{All-weaker, All-contains}
 use Rattle.std.proofs.lemmas.Int.{ints}

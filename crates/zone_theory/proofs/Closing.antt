@@ -1,4 +1,7 @@
 -- A matrix is the closed one of its own zone exactly where it is shortest, and a set has one closed matrix.
+-- Index: IsGreatest-least, IsGreatest-bounds, bounds-same, closed-unique, closed-same_set, closed-holds, closed-least,
+-- closed-shortest, shortest-some, shortest-reaches, shortest-closed, closed-itself, closed-has, IsTriangular,
+-- triangular-shortest.
 use Rattle.std.proofs.Common.{◌≡◌, ◌≢◌, ◌⊎◌, inl, inr, ⊎_elim, ◌≤◌, ℕ, ℤ, pos, ◌+ℤ◌, ◌-ℤ◌, neg_ℤ, ◌≤ℤ◌, List, [], ◌∷◌, length, Some, None, refl, sym, ap, subst, ◌∙◌, arith, Contains}
 use Rattle.std.specs.Int.{int_max}
 use Rattle.std.proofs.lemmas.Int.{ints, clamps}
@@ -9,7 +12,7 @@ use Rattle.zone_theory.specs.Matrices.{Matrix, InZone, entry, difference}
 use Rattle.zone_theory.specs.Shortest.{IsShortest}
 use Rattle.zone_theory.specs.Closed.{IsGreatest, IsClosed}
 use Rattle.zone_theory.proofs.Bounds.{le_same, le_both, Keeps-at_most, Keeps-from, IsAtMost-more}
-use Rattle.zone_theory.proofs.Entries.{same_or_apart, entry-zero, zero-entry, entry-apart}
+use Rattle.zone_theory.proofs.Entries.{same_or_apart, entry-zero, zero-entry, entry-apart, apart-shortest}
 use Rattle.zone_theory.proofs.Extending.{put, put-same, put-other, zone-extends}
 
 -- a bound of all differences is at least the greatest
@@ -226,7 +229,7 @@ at_most-number None c h = absurd h
 at_most-number (Some a) c h = (a, refl, h)
 
 pub triangular-shortest : (d : ℕ) (m : Matrix) → IsTriangular d m → IsShortest d m
-triangular-shortest d m t = record { triangle = go }
+triangular-shortest d m t = apart-shortest d m go
   where
     sum : (a b x y : ℤ) → x ≤ℤ a → y ≤ℤ b → (x +ℤ y) ≤ℤ (a +ℤ b)
     sum a b x y p q = omega (arith, ints)
@@ -237,16 +240,9 @@ triangular-shortest d m t = record { triangle = go }
     number : (i j : ℕ) → i ≢ j → (a : ℤ) → IsAtMost (entry m i j) a → (x : ℤ) × (m i j ≡ Some x) × (x ≤ℤ a)
     number i j n a h = at_most-number (m i j) a (subst (λ b. IsAtMost b a) (entry-apart m i j n) h)
 
-    go : (i k j : ℕ) → i ≤ d → k ≤ d → j ≤ d → (a b : ℤ) → IsAtMost (entry m i k) a → IsAtMost (entry m k j) b
-        → IsAtMost (entry m i j) (a +ℤ b)
-    go i k j hi hk hj a b ha hb = ⊎_elim
-        (λ e. let p : pos 0 ≤ℤ a = entry-zero m k a (subst (λ x. IsAtMost (entry m x k) a) e ha) in subst
-        (λ x. IsAtMost (entry m x j) (a +ℤ b)) (sym e)
-        (IsAtMost-more (entry m k j) b (a +ℤ b) hb (omega (arith, ints))))
-        (λ ik. ⊎_elim
-        (λ e. let p : pos 0 ≤ℤ b = entry-zero m k b (subst (λ y. IsAtMost (entry m k y) b) (sym e) hb) in subst
-        (λ y. IsAtMost (entry m i y) (a +ℤ b)) e (IsAtMost-more (entry m i k) a (a +ℤ b) ha (omega (arith, ints))))
-        (λ kj. ⊎_elim
+    go : (i k j : ℕ) → i ≤ d → k ≤ d → j ≤ d → i ≢ k → k ≢ j → (a b : ℤ) → IsAtMost (entry m i k) a
+        → IsAtMost (entry m k j) b → IsAtMost (entry m i j) (a +ℤ b)
+    go i k j hi hk hj ik kj a b ha hb = ⊎_elim
         (λ e. let p = number i k ik a ha in let q = number k j kj b hb in subst
         (λ y. IsAtMost (entry m i y) (a +ℤ b)) e (zero-entry m i (a +ℤ b)
         (trans (pos 0) (p.0 +ℤ q.0) (a +ℤ b) (t.cycle i k hi hk ik p.0 q.0 p.1
@@ -254,6 +250,4 @@ triangular-shortest d m t = record { triangle = go }
         (λ ij. let p = number i k ik a ha in let q = number k j kj b hb in subst (λ x. IsAtMost x (a +ℤ b))
         (sym (entry-apart m i j ij)) (IsAtMost-more (m i j) (p.0 +ℤ q.0) (a +ℤ b)
         (t.triangle i k j hi hk hj ik kj ij p.0 q.0 p.1 q.1) (sum a b p.0 q.0 p.2 q.2)))
-        (same_or_apart i j))
-        (same_or_apart k j))
-        (same_or_apart i k)
+        (same_or_apart i j)

@@ -1,4 +1,5 @@
 -- The inequalities of a matrix are true at the vector of a state exactly where the state is in the zone.
+-- Index: length-vector, true-meets, meets-true, zone-solves, solves-zone.
 use Rattle.std.proofs.Common.{◌≡◌, ◌≢◌, ⊎_elim, ◌≤◌, ◌<◌, ℕ, zero, suc, ℤ, pos, ◌+ℤ◌, ◌-ℤ◌, ◌≤ℤ◌, false, replicate, length, get_or, Option, Some, None, sym, ap, subst, ◌∙◌, arith, Contains, get_or-set_same, get_or-set_other}
 use Rattle.std.proofs.lemmas.Int.{ints}
 use Rattle.std.proofs.lemmas.List.{length-map, length-replicate, get_or-replicate, get_or-map, get_or_default}

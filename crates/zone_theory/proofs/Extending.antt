@@ -1,4 +1,5 @@
 -- A state of some coordinates that keeps the bounds of a shortest matrix is part of a state of its zone.
+-- Index: Fits, put, put-same, put-other, Extends, extend_one, extend_below, zone-extends.
 use Rattle.std.proofs.Common.{◌≡◌, ◌≢◌, ⊎_elim, ◌≤◌, ◌<◌, ℕ, zero, suc, ℤ, pos, ◌+ℤ◌, ◌-ℤ◌, ◌≤ℤ◌, cond, eqb, List, ◌∷◌, refl, sym, ap, subst, ◌∙◌, arith, Contains}
 use Rattle.std.proofs.lemmas.Int.{ints}
 use Rattle.prog_theory.specs.States.{State}

@@ -9,7 +9,7 @@ use Rattle.zone_theory.specs.Matrices.{Matrix, InZone, entry, difference}
 use Rattle.zone_theory.specs.Shortest.{IsShortest}
 use Rattle.zone_theory.specs.Forgetting.{forgotten}
 use Rattle.zone_theory.proofs.Bounds.{IsAtMost-more}
-use Rattle.zone_theory.proofs.Entries.{same_or_apart, eqb_same, eqb_apart, entry-zero, zero-entry, entry-apart, InZone-entry, InZone-from}
+use Rattle.zone_theory.proofs.Entries.{same_or_apart, eqb_same, eqb_apart, entry-zero, zero-entry, entry-apart, apart-shortest, InZone-entry, InZone-from}
 use Rattle.zone_theory.proofs.Coordinates.{length-changed, coordinate-changed_same, coordinate-changed_other}
 use Rattle.zone_theory.proofs.Others.{state-same, others-extend}
 
@@ -60,23 +60,14 @@ forgotten-keeps m v i j a row column h = ⊎_elim
 
 -- the matrix that is left is shortest
 pub forgotten-shortest : (d : ℕ) (m : Matrix) (v : ℕ) → IsShortest d m → IsShortest d (forgotten m v)
-forgotten-shortest d m v tight = record { triangle = go }
+forgotten-shortest d m v tight = apart-shortest d u go
   where
     u : Matrix
     u = forgotten m v
 
-    go : (i k j : ℕ) → i ≤ d → k ≤ d → j ≤ d → (a b : ℤ) → IsAtMost (entry u i k) a → IsAtMost (entry u k j) b
-        → IsAtMost (entry u i j) (a +ℤ b)
-    go i k j hi hk hj a b ha hb = ⊎_elim
-        (λ e. let p : pos 0 ≤ℤ a = entry-zero u k a (subst (λ x. IsAtMost (entry u x k) a) e ha) in subst
-        (λ x. IsAtMost (entry u x j) (a +ℤ b)) (sym e)
-        (IsAtMost-more (entry u k j) b (a +ℤ b) hb (omega (arith, ints))))
-        (λ n. ⊎_elim
-        (λ e. let p : pos 0 ≤ℤ b = entry-zero u k b (subst (λ y. IsAtMost (entry u k y) b) (sym e) hb) in subst
-        (λ y. IsAtMost (entry u i y) (a +ℤ b)) e (IsAtMost-more (entry u i k) a (a +ℤ b) ha (omega (arith, ints))))
-        (λ q. both (forgotten-cases m v i k a ha n) (forgotten-cases m v k j b hb q))
-        (same_or_apart k j))
-        (same_or_apart i k)
+    go : (i k j : ℕ) → i ≤ d → k ≤ d → j ≤ d → i ≢ k → k ≢ j → (a b : ℤ) → IsAtMost (entry u i k) a
+        → IsAtMost (entry u k j) b → IsAtMost (entry u i j) (a +ℤ b)
+    go i k j hi hk hj n q a b ha hb = both (forgotten-cases m v i k a ha n) (forgotten-cases m v k j b hb q)
       where
         both : Old m v i k a → Old m v k j b → IsAtMost (entry u i j) (a +ℤ b)
         both p q = forgotten-keeps m v i j (a +ℤ b) p.row q.column (tight.triangle i k j hi hk hj a b p.bound q.bound)

@@ -54,7 +54,8 @@ state-same (x ∷ s) (y ∷ t) e h = let p : x ≡ y = h 1 (omega arith) in let 
     rest zero l = refl
     rest (suc i) l = h (suc (suc i)) (omega arith)
 
--- A state that keeps the bounds between coordinates other than v has the coordinates, but for v, of a state of the zone.
+-- A state that keeps the bounds between coordinates other than v has the coordinates, but for v, of a state of the
+-- zone.
 pub others-extend : (d : ℕ) (m : Matrix) → IsShortest d m → (v : ℕ) → v ≢ 0 → (t : State)
     → ((i j : ℕ) → i ≤ d → j ≤ d → i ≢ v → j ≢ v → (a : ℤ) → IsAtMost (entry m i j) a → difference t i j ≤ℤ a)
     → (s : State) × InZone d m s × ((i : ℕ) → i ≤ d → i ≢ v → coordinate s i ≡ coordinate t i)

@@ -1,4 +1,5 @@
 -- The numbers of a closed matrix are no greater than those that it comes from, times the number of variables.
+-- Index: AreModest, greatest-high, greatest-low, closed-modest, closing-closed.
 use Rattle.std.proofs.Common.{◌≡◌, ◌≢◌, ◌⊎◌, inl, inr, ⊎_elim, ◌≤◌, ◌*◌, ℕ, ℤ, pos, ◌+ℤ◌, ◌-ℤ◌, neg_ℤ, ◌≤ℤ◌, ◌<ℤ◌, List, Contains, Some, refl, sym, subst, arith}
 use Rattle.std.proofs.lemmas.Int.{ints}
 use Rattle.prog_theory.specs.States.{State, coordinate}

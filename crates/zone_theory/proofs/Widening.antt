@@ -1,4 +1,6 @@
 -- Kept bounds: they are determined, their zone has what it must have, and there are fewer of them.
+-- Index: kept-unique, keep, keep-stays, kept-exists, kept-old, kept-set, kept-fewer, numbers-bound, width-bound,
+-- widened-falls, widened-exists.
 use Rattle.std.proofs.Common.{◌≡◌, ◌≢◌, ◌⊎◌, inl, inr, ⊎_elim, ◌≤◌, ◌<◌, ℕ, suc, ◌+◌, ℤ, cond, length, Option, Some, None, refl, sym, ap, subst, ◌∙◌, arith}
 use Rattle.prog_theory.specs.States.{State}
 use Rattle.zone_theory.specs.Bounds.{Bound, Keeps, IsAtMost}
@@ -136,8 +138,8 @@ pub width-bound : (d : ℕ) (kept : Option Matrix) → width d kept ≤ pairs d 
 width-bound d None = omega arith
 width-bound d (Some k) = let p : numbers d k ≤ pairs d = numbers-bound d k in omega arith
 
--- A widening by a set that isn't in the zone lowers the width. The zone of kept bounds, where there are some, is that of
--- the value.
+-- A widening by a set that isn't in the zone lowers the width. The zone of kept bounds, where there are some, is that
+-- of the value.
 pub widened-falls : (d : ℕ) (m : Matrix) (kept : Option Matrix) (S : State → Type 0) (u k : Matrix)
     → IsWidened d m kept S u k → ((s : State) → S s → length s ≡ d)
     → (((s : State) → S s → InZone d (basis m kept) s) → ⊥) → width d (Some k) < width d kept

@@ -1,4 +1,4 @@
-use Rattle.std.proofs.Common.{subst, subst₂}
+use Rattle.std.proofs.Common.{subst₂}
 use Rattle.std.specs.Prelude.{◌↔◌, All, IsTrue}
 use Rattle.trop_theory.specs.Inequalities.{IsTrueAt}
 use Rattle.prog_tree.specs.Claims.{claim_of}

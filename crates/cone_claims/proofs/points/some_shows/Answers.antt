@@ -1,17 +1,12 @@
 use Rattle.std.proofs.Common.{arith, sym, ◌∙◌, true≢false}
-use Rattle.trop_row.proofs.Sizes.{rows_size-read}
 use Rattle.cone_claims.specs.Points.{Shows}
-use Rattle.cone_claims.proofs.Loops.{each_more, none_found}
+use Rattle.cone_claims.proofs.Loops.{each_more, none_found, read_small}
 use Rattle.cone_claims.proofs.points.some_shows.Goals as goal
 
 pub shows-requires-clause-sizes : goal.shows-requires-clause-sizes
 shows-requires-clause-sizes g c =
-    let R = g.S.Scalar.ring in
-    omega (
-      arith,
-      rows_size-read R c.args.rows.now c.loop-row.row-index c.row-item.result c.row-item.is (omega arith),
-      c.requires.sizes,
-    )
+    read_small g.S.Scalar.ring c.args.rows.now c.loop-row.row-index c.row-item.result _ _ c.row-item.is (omega arith)
+    c.requires.sizes
 
 pub loop-row-preserved : goal.loop-row-preserved
 loop-row-preserved g c =

@@ -1,21 +1,13 @@
-use Rattle.std.proofs.Common.{length, [], ◌∷◌, ◌++◌, take, sym, ap, ◌∙◌, subst, arith}
-use Rattle.std.specs.Prelude.{All}
-use Rattle.trop_theory.specs.Inequalities.{IsIn}
-use Rattle.dom_poly.proofs.Kept.{same_inequality, taken_more, taken_whole, taken_length}
+use Rattle.std.proofs.Common.{length, [], ◌∷◌, ◌++◌, take, sym, ap, ◌∙◌, arith}
+use Rattle.dom_poly.proofs.Kept.{copy_wide, same_inequality, taken_more, taken_whole, taken_length}
 use Rattle.dom_poly.proofs.copying.copied_list.Goals as goal
 
 pub push-requires-clause-wide : goal.push-requires-clause-wide
 push-requires-clause-wide g c =
-    let S = c.as_slice-inequalities.result.now in
-    let n = c.args.list.now.n in
-    let each : All (IsIn n) S = subst (All (IsIn n)) (sym c.as_slice-inequalities.ensures.inequalities)
-    c.as_slice-inequalities.ensures.wide in
-    let item : IsIn n c.ineq-item.result = subst (IsIn n) (sym c.ineq-item.is)
-    (each c.loop-ineq.ineq-index c.ineq-item.result (omega arith)) in
-    record {
-      left = ap length c.in_ok-copy.ensures.left ∙ item.left ∙ sym c.loop-ineq.invariant.width;
-      right = ap length c.in_ok-copy.ensures.right ∙ item.right ∙ sym c.loop-ineq.invariant.width;
-    }
+    copy_wide c.args.list.now.n c.loop-ineq.out.n _ c.as_slice-inequalities.result.now c.loop-ineq.ineq-index
+    c.ineq-item.result c.in_ok-copy.field-0 c.as_slice-inequalities.ensures.inequalities
+    c.as_slice-inequalities.ensures.wide (omega arith) c.ineq-item.is c.in_ok-copy.ensures.left
+    c.in_ok-copy.ensures.right c.loop-ineq.invariant.width
 
 pub push-requires-clause-room : goal.push-requires-clause-room
 push-requires-clause-room g c =

@@ -6,7 +6,7 @@ use Rattle.trop_theory.specs.Combinations.{IsCombination}
 use Rattle.trop_theory.specs.StepList.{AreChosen}
 use Rattle.trop_criterion.proofs.Criterion.{All-system_size}
 use Rattle.dom_poly.specs.Kept.{most_kept}
-use Rattle.dom_poly.proofs.Kept.{chosen_more, chosen_past, same_inequality, taken_whole}
+use Rattle.dom_poly.proofs.Kept.{copy_wide, chosen_more, chosen_past, same_inequality, taken_whole}
 use Rattle.dom_poly.proofs.judging.valid_part.Goals as goal
 use Rattle.dom_poly.proofs.judging.valid_part.Goals.{then-is_valid+in_ok-copy+in_ok-push, else-is_valid}
 
@@ -33,16 +33,10 @@ is_valid-requires-clause-sizes g c =
 
 pub push-requires-clause-wide : goal.push-requires-clause-wide
 push-requires-clause-wide g c =
-    let S = c.as_slice-inequalities.result.now in
-    let n = c.args.list.now.n in
-    let each : All (IsIn n) S = subst (All (IsIn n)) (sym c.as_slice-inequalities.ensures.inequalities)
-    c.as_slice-inequalities.ensures.wide in
-    let item : IsIn n c.ineq-item.result = subst (IsIn n) (sym c.ineq-item.is)
-    (each c.loop-ineq.ineq-index c.ineq-item.result (omega arith)) in
-    record {
-      left = ap length c.in_ok-copy.ensures.left ∙ item.left ∙ sym c.loop-ineq.invariant.width;
-      right = ap length c.in_ok-copy.ensures.right ∙ item.right ∙ sym c.loop-ineq.invariant.width;
-    }
+    copy_wide c.args.list.now.n c.loop-ineq.part.n _ c.as_slice-inequalities.result.now c.loop-ineq.ineq-index
+    c.ineq-item.result c.in_ok-copy.field-0 c.as_slice-inequalities.ensures.inequalities
+    c.as_slice-inequalities.ensures.wide (omega arith) c.ineq-item.is c.in_ok-copy.ensures.left
+    c.in_ok-copy.ensures.right c.loop-ineq.invariant.width
 
 pub push-requires-clause-room : goal.push-requires-clause-room
 push-requires-clause-room g c = omega (

@@ -7,7 +7,13 @@ use Rattle.dom_zone.proofs.Searches.{each-more, not-each}
 use Rattle.dom_zone.proofs.claims.each_above_one.Goals as goal
 
 pub returns-then-not-above_one : goal.returns-then-not-above_one
-returns-then-not-above_one c = not-each (λ r. Any (λ l. AtEach c.args.vars (matrix_in c.args.vars c.args.bounds.now) l r) c.args.lefts.now) c.args.rights.now c.loop-k.k (term_of c.get.result.now) c.get.ensures (λ h. true≢false (sym (c.above_one.ensures.1 h) ∙ c.if-not-above_one.true))
+returns-then-not-above_one c = not-each
+    (λ r. Any (λ l. AtEach c.args.vars (matrix_in c.args.vars c.args.bounds.now) l r) c.args.lefts.now)
+    c.args.rights.now c.loop-k.k (term_of c.get.result.now) c.get.ensures
+    (λ h. true≢false (sym (c.above_one.ensures.1 h) ∙ c.if-not-above_one.true))
 
 pub loop-k-preserved : goal.loop-k-preserved
-loop-k-preserved c = each-more (λ r. Any (λ l. AtEach c.args.vars (matrix_in c.args.vars c.args.bounds.now) l r) c.args.lefts.now) c.args.rights.now c.loop-k.k (term_of c.get.result.now) c.get.ensures c.loop-k.invariant (c.above_one.ensures.0 c.if-not-above_one.false)
+loop-k-preserved c = each-more
+    (λ r. Any (λ l. AtEach c.args.vars (matrix_in c.args.vars c.args.bounds.now) l r) c.args.lefts.now)
+    c.args.rights.now c.loop-k.k (term_of c.get.result.now) c.get.ensures c.loop-k.invariant
+    (c.above_one.ensures.0 c.if-not-above_one.false)

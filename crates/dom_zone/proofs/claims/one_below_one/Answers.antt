@@ -7,7 +7,11 @@ use Rattle.dom_zone.proofs.Searches.{none-more, none-found}
 use Rattle.dom_zone.proofs.claims.one_below_one.Goals as goal
 
 pub loop-k-preserved : goal.loop-k-preserved
-loop-k-preserved c = none-more (λ l. Any (λ r. AtEach c.args.vars (matrix_in c.args.vars c.args.bounds.now) l r) c.args.rights.now) c.args.lefts.now c.loop-k.k (term_of c.get.result.now) c.get.ensures c.loop-k.invariant (λ p. true≢false (sym (c.below_one.ensures.1 p) ∙ c.if-below_one.false))
+loop-k-preserved c = none-more
+    (λ l. Any (λ r. AtEach c.args.vars (matrix_in c.args.vars c.args.bounds.now) l r) c.args.rights.now)
+    c.args.lefts.now c.loop-k.k (term_of c.get.result.now) c.get.ensures c.loop-k.invariant
+    (λ p. true≢false (sym (c.below_one.ensures.1 p) ∙ c.if-below_one.false))
 
 pub returns : goal.returns
-returns c = none-found (λ l. Any (λ r. AtEach c.args.vars (matrix_in c.args.vars c.args.bounds.now) l r) c.args.rights.now) c.args.lefts.now c.loop-k.k (omega arith) c.loop-k.invariant
+returns c = none-found (λ l. Any (λ r. AtEach c.args.vars (matrix_in c.args.vars c.args.bounds.now) l r)
+    c.args.rights.now) c.args.lefts.now c.loop-k.k (omega arith) c.loop-k.invariant

@@ -22,5 +22,6 @@ loop-j-preserved c = (
 pub returns-clause-list : goal.returns-clause-list
 returns-clause-list c = let e : c.loop-j.j ≡ suc c.args.vars = omega arith in
     subst (λ k. c.loop-j.out.inequalities ≡ c.args.out.now.inequalities
-    ++ map (inequality max_ring max_numbering (suc c.args.vars)) (row (matrix_in c.args.vars c.args.bounds.now) c.args.i k)) e
+    ++ map (inequality max_ring max_numbering (suc c.args.vars))
+    (row (matrix_in c.args.vars c.args.bounds.now) c.args.i k)) e
     c.loop-j.invariant.1

@@ -6,4 +6,6 @@ use Rattle.zone_lists.specs.Zones.{matrix_in}
 use Rattle.dom_zone.proofs.embedding.system_of.Given as goal
 
 abbrev pub invariant-loop-i : goal.invariant-loop-i
-invariant-loop-i l = (l.out.n ≡ suc l.vars) × (l.out.inequalities ≡ map (inequality max_ring max_numbering (suc l.vars)) (rows (matrix_in l.vars l.bounds) (suc l.vars) l.i))
+invariant-loop-i l = (l.out.n ≡ suc l.vars)
+    × (l.out.inequalities ≡ map (inequality max_ring max_numbering (suc l.vars))
+    (rows (matrix_in l.vars l.bounds) (suc l.vars) l.i))

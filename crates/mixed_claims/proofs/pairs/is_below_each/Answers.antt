@@ -2,8 +2,9 @@ use Rattle.std.proofs.Common.{arith, sym, ◌∙◌, true≢false}
 use Rattle.prog_tree.specs.declared.term.Term.{Term}
 use Rattle.prog_tree.specs.Terms.{term_of}
 use Rattle.cone_claims.proofs.TermSums.{holds_at}
+use Rattle.cone_claims.proofs.Loops.{each_found}
 use Rattle.mixed_claims.specs.Terms.{IsTermOf, IsPairOn}
-use Rattle.mixed_claims.proofs.Searches.{not_each_at, each_more_at, each_found}
+use Rattle.mixed_claims.proofs.Searches.{not_each_at, each_more_at}
 use Rattle.mixed_claims.proofs.pairs.is_below_each.Goals as goal
 
 pub is_pair_below-requires-clause-right_fits : goal.is_pair_below-requires-clause-right_fits

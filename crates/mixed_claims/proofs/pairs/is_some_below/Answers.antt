@@ -27,4 +27,5 @@ returns-then-is_below_some g c =
 pub returns : goal.returns
 returns g c =
     let P : Term → Term → Type 0 = IsPairOn g.S.Scalar.ring g.S.Scalar.numbering c.args.vars c.args.rows.now in
-    none_found (λ l. Any (P l) c.args.right.now) c.args.left.now c.loop-term.term-index (omega arith) c.loop-term.invariant
+    none_found (λ l. Any (P l) c.args.right.now) c.args.left.now c.loop-term.term-index
+    (omega arith) c.loop-term.invariant

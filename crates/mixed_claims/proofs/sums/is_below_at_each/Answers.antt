@@ -1,9 +1,7 @@
 use Rattle.std.proofs.Common.{arith, ap, sym, ◌∙◌, length, true≢false}
 use Rattle.trop_theory.specs.Inequalities.{IsTrueAt}
-use Rattle.trop_row.proofs.Sizes.{rows_size-read}
-use Rattle.cone_claims.proofs.Loops.{each_more, not_each}
+use Rattle.cone_claims.proofs.Loops.{read_within, each_found, each_more, not_each}
 use Rattle.mixed_claims.specs.Terms.{read_inequality}
-use Rattle.mixed_claims.proofs.Searches.{each_found}
 use Rattle.mixed_claims.proofs.sums.is_below_at_each.Goals as goal
 
 pub is_below_at-requires-clause-wide : goal.is_below_at-requires-clause-wide
@@ -12,12 +10,7 @@ is_below_at-requires-clause-wide g c =
 
 pub is_below_at-requires-clause-size : goal.is_below_at-requires-clause-size
 is_below_at-requires-clause-size g c =
-    let R = g.S.Scalar.ring in
-    omega (
-      arith,
-      rows_size-read R c.args.rows.now c.loop-row.row-index c.row-item.result c.row-item.is (omega arith),
-      c.requires.size,
-    )
+    read_within g.S.Scalar.ring c.args.rows.now c.loop-row.row-index _ _ c.row-item.is (omega arith) c.requires.size
 
 pub returns-then-not-is_below_at : goal.returns-then-not-is_below_at
 returns-then-not-is_below_at g c =
@@ -35,5 +28,6 @@ loop-row-preserved g c =
 
 pub returns : goal.returns
 returns g c =
-    each_found (IsTrueAt g.S.Scalar.ring (read_inequality g.S.Scalar.ring g.S.Scalar.numbering c.args.reading c.args.vars
+    each_found (IsTrueAt g.S.Scalar.ring
+    (read_inequality g.S.Scalar.ring g.S.Scalar.numbering c.args.reading c.args.vars
     c.args.left.now c.args.right.now)) c.args.rows.now c.loop-row.row-index (omega arith) c.loop-row.invariant

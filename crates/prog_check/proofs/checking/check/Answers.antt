@@ -11,20 +11,19 @@ pub returns-clause-unique : goal.returns-clause-unique
 returns-clause-unique g c =
     let R = g.S.Scalar.ring in
     let N = g.S.Scalar.numbering in
-    let reversed = g.S.Scalar.REVERSED in
     let r = c.args.report.now in
-    ok_moved (λ v. IsVerdict R N reversed (said r) (verdict_of v))
-    (λ v. (other : theory.Verdict _) → IsVerdict R N reversed (said r) other → other ≡ verdict_of v) c.verdict_on.result
+    ok_moved (λ v. IsVerdict R N g.S.Scalar.REVERSED (said r) (verdict_of v))
+    (λ v. (other : theory.Verdict _) → IsVerdict R N g.S.Scalar.REVERSED (said r) other → other ≡ verdict_of v)
+    c.verdict_on.result
     (λ v h other k. one_verdict g.met.S.Scalar.ring_laws g.met.S.Numeric.numeric_laws r c.passes-keeps.ensures.keeps
     (verdict_of v) h other k) c.verdict_on.ensures
 
 pub returns-clause-true_at_visits : goal.returns-clause-true_at_visits
 returns-clause-true_at_visits g c =
-    let R = g.S.Scalar.ring in
-    let N = g.S.Scalar.numbering in
-    let reversed = g.S.Scalar.REVERSED in
     let r = c.args.report.now in
-    ok_moved (λ v. IsVerdict R N reversed (said r) (verdict_of v))
-    (λ v. verdict_of v ≡ theory.Inductive → IsTrueAtVisits R N reversed (said r)) c.verdict_on.result
+    ok_moved
+    (λ v. IsVerdict g.S.Scalar.ring g.S.Scalar.numbering g.S.Scalar.REVERSED (said r) (verdict_of v))
+    (λ v. verdict_of v ≡ theory.Inductive
+    → IsTrueAtVisits g.S.Scalar.ring g.S.Scalar.numbering g.S.Scalar.REVERSED (said r)) c.verdict_on.result
     (λ v h e. verdict_is_true g.met.S.Scalar.ring_laws g.met.S.Numeric.numeric_laws r c.passes-keeps.ensures.keeps
     (verdict_of v) h e) c.verdict_on.ensures

@@ -25,18 +25,17 @@ pub returns-in-Some : goal.returns-in-Some
 returns-in-Some g c =
     let R = g.S.Scalar.ring in
     let N = g.S.Scalar.numbering in
-    let reversed = g.S.Scalar.REVERSED in
     let r = c.args.report.now in
-    wrong_is R N reversed (said r) c.requires.whole c.requires.stays c.requires.valid c.in-Some.statement
-    (some_of (AllZip (IsRight R N reversed (said r)) (theory.asserts (nameless r.program)) r.verdicts)
-    (WrongAt R N reversed (said r)) c.first_wrong.result c.in-Some.statement c.in-Some.is c.first_wrong.ensures)
+    wrong_is R N g.S.Scalar.REVERSED (said r) c.requires.whole c.requires.stays c.requires.valid c.in-Some.statement
+    (some_of (AllZip (IsRight R N g.S.Scalar.REVERSED (said r)) (theory.asserts (nameless r.program)) r.verdicts)
+    (WrongAt R N g.S.Scalar.REVERSED (said r)) c.first_wrong.result c.in-Some.statement c.in-Some.is
+    c.first_wrong.ensures)
 
 pub returns : goal.returns
 returns g c =
-    let R = g.S.Scalar.ring in
-    let N = g.S.Scalar.numbering in
-    let reversed = g.S.Scalar.REVERSED in
     let r = c.args.report.now in
-    inductive_is R N reversed (said r) c.requires.whole c.requires.stays c.requires.valid
-    (none_of (AllZip (IsRight R N reversed (said r)) (theory.asserts (nameless r.program)) r.verdicts)
-    (WrongAt R N reversed (said r)) c.first_wrong.result c.in-None.is c.first_wrong.ensures)
+    let IsRightThere = IsRight g.S.Scalar.ring g.S.Scalar.numbering g.S.Scalar.REVERSED (said r) in
+    inductive_is g.S.Scalar.ring g.S.Scalar.numbering g.S.Scalar.REVERSED (said r) c.requires.whole c.requires.stays
+    c.requires.valid (none_of (AllZip IsRightThere (theory.asserts (nameless r.program)) r.verdicts)
+    (WrongAt g.S.Scalar.ring g.S.Scalar.numbering g.S.Scalar.REVERSED (said r)) c.first_wrong.result c.in-None.is
+    c.first_wrong.ensures)

@@ -20,25 +20,19 @@ pub escape-requires-clause-width : goal.escape-requires-clause-width
 escape-requires-clause-width g c =
     c.part-target.ensures.kept.rows_width ∙ sym c.part-source.ensures.kept.rows_width
 
-pub escape-requires-clause-fits : goal.escape-requires-clause-fits
-escape-requires-clause-fits g c =
-    edge_fits_in c.args.report.now c.passes-keeps.ensures.keeps c.part-source.result.now.rows.n
-    c.part-source.ensures.kept.rows_width (edge_of c.args.edge.now) c.requires
-
-pub escape-requires-clause-numbers : goal.escape-requires-clause-numbers
-escape-requires-clause-numbers g c =
-    edge_numbers c.args.report.now c.passes-keeps.ensures.keeps (edge_of c.args.edge.now) c.requires
-
-pub escape-requires-clause-few : goal.escape-requires-clause-few
-escape-requires-clause-few g c = omega (arith, c.part-source.ensures.kept.part.lines.rows_few)
-
-pub escape-requires-clause-size : goal.escape-requires-clause-size
-escape-requires-clause-size g c = omega (arith, c.part-source.ensures.kept.part.small)
-
-pub escape-requires-clause-finite : goal.escape-requires-clause-finite
-escape-requires-clause-finite g c =
-    normal_rows_finite g.met.S.Scalar.ring_laws c.part-source.result.now.rows.n c.part-source.result.now.rows.rows
-    c.part-source.ensures.kept.part.normal
+pub escape-requires-clause-movable : goal.escape-requires-clause-movable
+escape-requires-clause-movable g c =
+    let r = c.args.report.now in
+    let kept = c.passes-keeps.ensures.keeps in
+    let source = c.part-source.ensures.kept in
+    record {
+      fits = edge_fits_in r kept c.part-source.result.now.rows.n source.rows_width (edge_of c.args.edge.now) c.requires;
+      numbers = edge_numbers r kept (edge_of c.args.edge.now) c.requires;
+      few = omega (arith, source.part.lines.rows_few);
+      size = omega (arith, source.part.small);
+      finite = normal_rows_finite g.met.S.Scalar.ring_laws c.part-source.result.now.rows.n
+          c.part-source.result.now.rows.rows source.part.normal;
+    }
 
 pub escape-requires-clause-target_size : goal.escape-requires-clause-target_size
 escape-requires-clause-target_size g c = omega (arith, c.part-target.ensures.kept.part.small)
@@ -47,7 +41,6 @@ pub returns : goal.returns
 returns g c =
     let R = g.S.Scalar.ring in
     let N = g.S.Scalar.numbering in
-    let reversed = g.S.Scalar.REVERSED in
     let r = c.args.report.now in
     let kept = c.passes-keeps.ensures.keeps in
     let e = edge_of c.args.edge.now in
@@ -59,6 +52,8 @@ returns g c =
     (part_is r kept e.from (part_of c.part-source.result.now) c.part-source.ensures.value) in
     let to_is : (part_at (said r) e.to).rows ≡ target = ap (λ (x : Part _). x.rows)
     (part_is r kept e.to (part_of c.part-target.result.now) c.part-target.ensures.value) in
-    found_moved (IsOutside R N reversed n e.op source target) (Leaves R N reversed (said r) e) c.escape.result
-    (λ h. stays_by_rows R N reversed (said r) n width e source target from_is to_is h)
-    (λ row o. leaves_by_rows R N reversed (said r) n width e source target row from_is to_is o) c.escape.ensures
+    found_moved (IsOutside R N g.S.Scalar.REVERSED n e.op source target) (Leaves R N g.S.Scalar.REVERSED (said r) e)
+    c.escape.result
+    (λ h. stays_by_rows R N g.S.Scalar.REVERSED (said r) n width e source target from_is to_is h)
+    (λ row o. leaves_by_rows R N g.S.Scalar.REVERSED (said r) n width e source target row from_is to_is o)
+    c.escape.ensures

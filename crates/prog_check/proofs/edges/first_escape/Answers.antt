@@ -22,7 +22,8 @@ returns-in-Some g c =
     let same : map edge_of c.as_slice-edges.result.now ≡ edges P =
     c.as_slice-edges.ensures ∙ c.edges.ensures.value ∙ ap (λ (G : ControlGraph). G.edges) c.graph.ensures.value in
     escapes_from c.args.report.now c.passes-keeps.ensures.keeps g.met.S.Scalar.ring_laws g.met.S.Numeric.numeric_laws
-    c.as_slice-edges.result.now same c.loop-k.k _ (omega arith) c.loop-k.invariant c.in_ok-found.found c.in-Some.row c.in-Some.is c.in_ok-found.ensures
+    c.as_slice-edges.result.now same c.loop-k.k _ (omega arith) c.loop-k.invariant c.in_ok-found.found c.in-Some.row
+    c.in-Some.is c.in_ok-found.ensures
 
 pub returns : goal.returns
 returns g c =

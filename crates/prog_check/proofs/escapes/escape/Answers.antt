@@ -14,7 +14,8 @@ first_outside-requires-clause-wide g c =
     subst (λ k. AreWide k c.as_slice.result.now) (sym c.requires.width)
     (subst (AreWide n) (sym c.as_slice.ensures.rows)
     (list_wide g.met.S.Scalar.ring_laws g.met.S.Numeric.numeric_laws n c.as_slice-source.ensures.at_least
-    (op_of c.args.op.now) c.args.source.now.rows c.in_ok-list.list.rows c.requires.fits c.as_slice-source.ensures.wide
+    (op_of c.args.op.now) c.args.source.now.rows c.in_ok-list.list.rows c.requires.movable.fits
+    c.as_slice-source.ensures.wide
     c.in_ok-list.ensures.list))
 
 pub returns : goal.returns
@@ -34,6 +35,6 @@ returns g c =
     (IsOutside R g.S.Scalar.numbering g.S.Scalar.REVERSED n (op_of c.args.op.now) c.args.source.now.rows target.rows)
     c.first_outside.result
     (λ all. inside g.met.S.Scalar.ring_laws g.met.S.Numeric.numeric_laws n c.as_slice-source.ensures.at_least
-    (op_of c.args.op.now) c.args.source.now.rows list target.rows c.requires.fits c.as_slice-source.ensures.wide
+    (op_of c.args.op.now) c.args.source.now.rows list target.rows c.requires.movable.fits c.as_slice-source.ensures.wide
     (subst (λ k. AreWide k target.rows) c.requires.width c.as_slice-target.ensures.wide) c.in_ok-list.ensures.list all)
     (λ row first. (list, c.in_ok-list.ensures.list, first)) told

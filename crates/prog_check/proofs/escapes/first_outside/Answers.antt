@@ -1,18 +1,13 @@
 use Rattle.std.proofs.Common.{◌∙◌, subst, sym, arith, true≢false}
 use Rattle.trop_theory.specs.Combinations.{IsCombination}
-use Rattle.trop_row.proofs.Sizes.{rows_size-read}
 use Rattle.cone_reports.specs.Verdicts.{IsFirstWithout}
+use Rattle.cone_claims.proofs.Loops.{read_within}
 use Rattle.prog_check.proofs.Loops.{first_at}
 use Rattle.prog_check.proofs.escapes.first_outside.Goals as goal
 
 pub member-requires-clause-target_size : goal.member-requires-clause-target_size
 member-requires-clause-target_size g c =
-    let R = g.S.Scalar.ring in
-    omega (
-      arith,
-      rows_size-read R c.args.rows.now c.loop-row.row-index c.row-item.result c.row-item.is (omega arith),
-      c.requires.size,
-    )
+    read_within g.S.Scalar.ring c.args.rows.now c.loop-row.row-index _ _ c.row-item.is (omega arith) c.requires.size
 
 pub returns-then-not-member : goal.returns-then-not-member
 returns-then-not-member g c =

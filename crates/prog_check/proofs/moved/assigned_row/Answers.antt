@@ -1,7 +1,7 @@
 use Rattle.std.proofs.Common.{ap, arith}
-use Rattle.trop_theory.specs.Vectors.{row_size}
 use Rattle.trop_theory.specs.Sizes.{most_scaled}
-use Rattle.trop_cones.proofs.Sizes.{size_entry, row_size-set}
+use Rattle.trop_cones.proofs.Sizes.{size_entry}
+use Rattle.prog_check.proofs.NormalLists.{changed_small}
 use Rattle.prog_check.proofs.moved.assigned_row.Goals as goal
 
 pub times-requires : goal.times-requires
@@ -18,17 +18,12 @@ pub returns-clause-size : goal.returns-clause-size
 returns-clause-size g c =
     let R = g.S.Scalar.ring in
     let laws = g.met.S.Scalar.ring_laws in
-    omega (
+    changed_small laws c.args.row.now c.in_ok-next.next _ c.args.i c.times.result most_scaled c.in_ok-next.ensures.same
+    c.set.ensures (omega (arith, c.requires.size)) (omega (
       arith,
-      ap (row_size R) c.set.ensures,
-      row_size-set laws c.in_ok-next.next c.args.i c.times.result most_scaled
-          (omega (arith, ap (row_size R) c.in_ok-next.ensures.same, c.requires.size))
-          (omega (
-            arith,
-            ap R.size c.times.ensures,
-            laws.size_times c.args.c c.get.result,
-            ap R.size c.get.ensures,
-            size_entry laws c.args.row.now c.args.from,
-            c.requires.size,
-          )),
-    )
+      ap R.size c.times.ensures,
+      laws.size_times c.args.c c.get.result,
+      ap R.size c.get.ensures,
+      size_entry laws c.args.row.now c.args.from,
+      c.requires.size,
+    ))

@@ -1,16 +1,11 @@
 use Rattle.std.proofs.Common.{arith, set}
-use Rattle.trop_row.proofs.Sizes.{rows_size-read}
+use Rattle.cone_claims.proofs.Loops.{read_within}
 use Rattle.prog_check.proofs.NormalLists.{normalised_more, normalised_whole}
 use Rattle.prog_check.proofs.moved.cleared_rows.Goals as goal
 
 pub cleared_row-requires-clause-size : goal.cleared_row-requires-clause-size
 cleared_row-requires-clause-size g c =
-    let R = g.S.Scalar.ring in
-    omega (
-      arith,
-      c.requires.size,
-      rows_size-read R c.args.rows.now c.loop-row.row-index c.row-item.result c.row-item.is (omega arith),
-    )
+    read_within g.S.Scalar.ring c.args.rows.now c.loop-row.row-index _ _ c.row-item.is (omega arith) c.requires.size
 
 pub loop-row-preserved : goal.loop-row-preserved
 loop-row-preserved g c =

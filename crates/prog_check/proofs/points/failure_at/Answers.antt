@@ -28,9 +28,8 @@ returns-in-Some g c =
 pub returns-in-None : goal.returns-in-None
 returns-in-None g c =
     let r = c.args.report.now in
+    let kept = c.part-part.ensures.keeps in
     let part = c.part-part.result.now in
-    let is : part_at (said r) c.args.point ≡ part_of part =
-    part_is r c.part-part.ensures.keeps c.args.point (part_of part) c.part-part.ensures.value in
     valid_by_rows g.S.Scalar.ring g.S.Scalar.numbering g.S.Scalar.REVERSED (said r) part.rows.n
-    (width_is r c.part-part.ensures.keeps part.rows.n c.part-part.ensures.kept.rows_width) c.args.point
-    (part_of part) is c.in-None.ensures.first
+    (width_is r kept part.rows.n c.part-part.ensures.kept.rows_width) c.args.point (part_of part)
+    (part_is r kept c.args.point (part_of part) c.part-part.ensures.value) c.in-None.ensures.first

@@ -5,9 +5,12 @@ use Rattle.dom_poly.proofs.Named.{op_in}
 use Rattle.dom_poly.proofs.Fitted.{image_answered}
 use Rattle.dom_poly.proofs.value.PolyDomain.image_by.Goals as goal
 
-pub image-requires-clause-fits : goal.image-requires-clause-fits
-image-requires-clause-fits g c = op_in c.args.self.now c.poly.result.now c.poly.ensures.width c.poly.ensures.rows
-    (op_of c.args.op.now) c.requires.fits
+pub image-requires-clause-op : goal.image-requires-clause-op
+image-requires-clause-op g c = record {
+  fits = op_in c.args.self.now c.poly.result.now c.poly.ensures.width c.poly.ensures.rows (op_of c.args.op.now)
+      c.requires.fits;
+  numbers = c.requires.numbers;
+}
 
 pub image-requires-clause-small : goal.image-requires-clause-small
 image-requires-clause-small g c =

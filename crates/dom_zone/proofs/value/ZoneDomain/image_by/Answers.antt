@@ -7,7 +7,8 @@ use Rattle.dom_zone.proofs.value.ZoneDomain.image_by.Goals as goal
 
 pub moved-requires-clause-sound : goal.moved-requires-clause-sound
 moved-requires-clause-sound c = subst (IsSmallTable c.self.inside.vars) (sym c.as_slice.ensures)
-    (small-some c.self.inside.vars c.self.inside.bounds c.self.inside.kept c.in-Some.bounds c.self.invariant c.in-Some.is)
+    (small-some c.self.inside.vars c.self.inside.bounds c.self.inside.kept c.in-Some.bounds c.self.invariant
+    c.in-Some.is)
 
 pub returns-in-None : goal.returns-in-None
 returns-in-None c = image-none c.self.inside.vars c.self.inside.bounds c.self.inside.kept (op_of c.args.op.now)

@@ -1,6 +1,6 @@
 use Rattle.std.proofs.Common.{◌<◌, ℕ, List, get_or}
 use Rattle.trop_theory.specs.Inequalities.{IsTrueAt}
-use Rattle.prog_check.proofs.validity.holds_at_each.Given as goal
+use Rattle.cone_claims.proofs.validity.holds_at_each.Given as goal
 
 abbrev pub invariant-loop-row : goal.invariant-loop-row
 invariant-loop-row g l = (k : ℕ) (d : List _) → k < l.row-index →

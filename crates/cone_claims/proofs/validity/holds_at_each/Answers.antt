@@ -1,8 +1,8 @@
 use Rattle.std.proofs.Common.{arith, ap, sym, ◌∙◌, length, true≢false}
-use Rattle.trop_theory.specs.Inequalities.{IsTrueAt}
-use Rattle.trop_row.proofs.Sizes.{rows_size-read}
-use Rattle.cone_claims.proofs.Loops.{each_more, not_each}
-use Rattle.dom_poly.proofs.judging.holds_at_each.Goals as goal
+use Rattle.trop_theory.specs.Inequalities.{IsTrueAt, inequality_size}
+use Rattle.trop_theory.specs.Sizes.{most_entry}
+use Rattle.cone_claims.proofs.Loops.{each_more, not_each, read_small}
+use Rattle.cone_claims.proofs.validity.holds_at_each.Goals as goal
 
 pub holds-requires-clause-lengths : goal.holds-requires-clause-lengths
 holds-requires-clause-lengths g c =
@@ -10,13 +10,11 @@ holds-requires-clause-lengths g c =
     ∙ sym c.requires.inside.left
 
 pub holds-requires-clause-sizes : goal.holds-requires-clause-sizes
-holds-requires-clause-sizes g c =
-    let R = g.S.Scalar.ring in
-    omega (
-      arith,
-      rows_size-read R c.args.rows.now c.loop-row.row-index c.row-item.result c.row-item.is (omega arith),
-      c.requires.sizes,
-    )
+holds-requires-clause-sizes g c = omega (
+  arith,
+  read_small g.S.Scalar.ring c.args.rows.now c.loop-row.row-index c.row-item.result
+      (inequality_size g.S.Scalar.ring c.args.ineq.now) most_entry c.row-item.is (omega arith) c.requires.sizes,
+)
 
 pub returns-then-not-holds : goal.returns-then-not-holds
 returns-then-not-holds g c =

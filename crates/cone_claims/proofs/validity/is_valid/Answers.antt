@@ -2,7 +2,7 @@ use Rattle.std.proofs.Common.{subst}
 use Rattle.std.specs.Prelude.{◌↔◌, All, IsTrue}
 use Rattle.trop_theory.specs.Inequalities.{IsTrueAt}
 use Rattle.trop_cones.proofs.Cones.{valid_is_rows}
-use Rattle.dom_poly.proofs.judging.is_valid.Goals as goal
+use Rattle.cone_claims.proofs.validity.is_valid.Goals as goal
 
 pub returns : goal.returns
 returns g c =
