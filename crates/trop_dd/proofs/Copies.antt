@@ -3,9 +3,7 @@ use Rattle.std.proofs.Common.{◌≡◌, ◌<◌, ◌+◌, ℕ, List, [], ◌∷
 use Rattle.std.proofs.lemmas.List.{take_more}
 use Rattle.trop_theory.specs.Semiring.{Semiring}
 use Rattle.trop_theory.specs.Inequalities.{Inequality}
-use Rattle.trop_pruning.specs.Judged.{Side}
 use Rattle.trop_dd.specs.Description.{Description}
-use Rattle.trop_dd.specs.Carried.{AreCarried}
 use Rattle.trop_dd.specs.Sound.{IsSound}
 
 -- one more element is copied
@@ -26,10 +24,3 @@ module _ {V : Type 0} (n m : ℕ) (system others : List (Inequality V)) (rows co
   pub copied_sound : (R : Semiring V) → IsSound R n system rows → IsSound R m others copies
   copied_sound R h = subst (λ k. IsSound R k others copies) (sym en)
       (subst (λ s. IsSound R n s copies) (sym es) (subst (IsSound R n system) (sym er) h))
-
-  pub copied_carried : (R : Semiring V) (sides more : List (Side V)) → more ≡ sides → AreCarried R n system rows sides →
-      AreCarried R m others copies more
-  copied_carried R sides more e h =
-      subst (λ k. AreCarried R k others copies more) (sym en)
-      (subst (λ s. AreCarried R n s copies more) (sym es)
-      (subst (λ r. AreCarried R n system r more) (sym er) (subst (AreCarried R n system rows) (sym e) h)))

@@ -3,6 +3,8 @@ pub mod Places
 pub mod Parting
 pub mod Searching
 pub mod Numbers
+pub mod Moves
+pub mod Starts
 pub mod Settled
 pub mod Splits
 pub mod Mixes

@@ -5,22 +5,21 @@
 --   left_size .. right_fits .. sum_at, is_factor, slot_size: sizes, and the multiple that makes the sum normal
 --   normalises .. is_cover, has_edge, first_fits, second_fits: the new row and what is carried beside it
 --   kept_tail, rejected_at, no_type_given: pairs that words reject
-use Rattle.std.proofs.Common.{◌≡◌, ◌≢◌, ◌⊎◌, ◌<◌, ◌≤◌, ◌+◌, ◌^◌, ℕ, List, [], ◌∷◌, ◌++◌, length, inl, inr, ⊎_elim, sym, ap, ◌∙◌, refl, arith, subst, get_or, ap₂}
-use Rattle.std.specs.Prelude.{All, Contains, ◌↔◌, Option, Some, None}
+use Rattle.std.proofs.Common.{◌≡◌, ◌≢◌, ◌⊎◌, ◌<◌, ◌≤◌, ◌+◌, ◌^◌, ℕ, List, [], ◌∷◌, ◌++◌, length, inl, inr, ⊎_elim, sym, ap, ◌∙◌, arith, subst, get_or, ap₂}
+use Rattle.std.specs.Prelude.{All, Contains, ◌↔◌, None}
 use Rattle.std.proofs.lemmas.List.{length-map, get_or_default, get_or_past}
-use Rattle.std.proofs.lemmas.List.Elements.{All-contains}
 use Rattle.std.proofs.lemmas.Bool.{cases_lt}
 use Rattle.trop_theory.specs.Semiring.{Semiring, SemiringLaws}
 use Rattle.trop_theory.specs.Vectors.{entry, scaled, joined, dot, row_size}
 use Rattle.trop_theory.specs.Normal.{IsNormal, Normalises}
-use Rattle.trop_theory.specs.Inequalities.{Inequality, Solves, IsIn, inequality_size, system_size}
+use Rattle.trop_theory.specs.Inequalities.{Inequality, Solves, IsIn}
 use Rattle.trop_theory.specs.Extreme.{IsExtreme}
 use Rattle.trop_theory.specs.Steps.{mixed}
 use Rattle.trop_theory.proofs.Truth.{HoldsOf}
 use Rattle.trop_theory.proofs.Order.{times_zero}
 use Rattle.trop_theory.proofs.Canonical.{same_from_multiple}
 use Rattle.trop_theory.proofs.Generation.{undo_normal}
-use Rattle.trop_theory.proofs.Rows.{entry-scaled, scaled-scaled, scaled-joined, length-joined}
+use Rattle.trop_theory.proofs.Rows.{entry-scaled, scaled-scaled, scaled-joined}
 use Rattle.trop_theory.proofs.Sizes.{size-entry}
 use Rattle.trop_theory.proofs.Narrower.{mixed_solves}
 use Rattle.trop_criterion.specs.Hypergraphs.{Has, Hyperedge}
@@ -29,9 +28,9 @@ use Rattle.trop_pruning.specs.Slots.{Slot, IsSlot}
 use Rattle.trop_pruning.specs.Open.{IsOpen, IsCover}
 use Rattle.trop_pruning.specs.PairEdges.{HasEdge}
 use Rattle.trop_pruning.specs.Pairs.{Words, GivesTyped, AreTypes, IsRejected}
-use Rattle.trop_pruning.specs.Judged.{Side, IsSide, IsPair, IsJudged}
+use Rattle.trop_pruning.specs.Judged.{Side, IsSide, IsJudged}
 use Rattle.trop_pruning.specs.Merged.{IsNormalMix}
-use Rattle.trop_pruning.proofs.NewSlots.{dropped_finite, IsSlot-mixed, right-mixed}
+use Rattle.trop_pruning.proofs.NewSlots.{IsSlot-mixed, right-mixed}
 use Rattle.trop_pruning.proofs.Sums.{some_attains}
 use Rattle.trop_pruning.proofs.MixedSums.{entry-mix, length-mix}
 use Rattle.trop_pruning.proofs.MixedSlots.{IsSlot-scaled}
@@ -41,11 +40,11 @@ use Rattle.trop_pruning.proofs.Completeness.{judged_none, judged_some}
 use Rattle.trop_pruning.proofs.Covers.{IsCover-edges}
 use Rattle.trop_dd.specs.declared.splitting.Kept.{Kept}
 use Rattle.trop_dd.specs.declared.splitting.Dropped.{Dropped}
-use Rattle.trop_dd.specs.Carried.{rows_of, IsNext}
+use Rattle.trop_dd.specs.Carried.{IsNext}
 use Rattle.trop_dd.specs.Parts.{IsKept, IsDropped}
 use Rattle.trop_dd.specs.Steps.{HasGiven, IsFit, IsGiven, IsFactor, AreMultiples}
 use Rattle.trop_dd.proofs.Sizes.{size-dot}
-use Rattle.trop_dd.proofs.Places.{slot_sizes, side_at, normal_at, size_at, length-rows}
+use Rattle.trop_dd.proofs.Places.{slot_sizes, side_at, normal_at, size_at}
 
 module _ {V : Type 0} {R : Semiring V} (laws : SemiringLaws R) where
   -- a vector has one normal form
@@ -122,7 +121,7 @@ module _ {V : Type 0} {R : Semiring V} (laws : SemiringLaws R) where
           (size_at laws n system p sides next kept.place v k.within);
       second_size = subst (λ s. row_size R s.row ≤ 2 ^ 57) (sym w_read)
           (size_at laws n system p sides next dropped.place w h.within);
-      solves = λ x m. mixed_solves laws n system p (rows_of sides) v.row w.row x next.last next.described.generates
+      solves = λ x m. mixed_solves laws n system p next.rows v.row w.row x next.last next.described.generates
           side_v.solves side_w.solves (λ i d l. (next.described.canonical.extreme i d l).member.wide) holds fails m;
     }
 

@@ -4,10 +4,10 @@
 --   kept_describes, all_hold_at, counts_none: where none is dropped
 --   grows_none, grows_more, grows_one, given_stays, tried_more, tried_kept_more: one more pair, or row
 --   over_limit, rows_put, found_more: more rows than the limit; one more row
-use Rattle.std.proofs.Common.{◌≡◌, ◌≢◌, ◌⊎◌, ◌<◌, ◌≤◌, ◌+◌, ◌^◌, ℕ, min, List, [], ◌∷◌, ◌++◌, length, take, inl, inr, ⊎_elim, sym, ap, ◌∙◌, arith, subst, get_or}
+use Rattle.std.proofs.Common.{◌≡◌, ◌≢◌, ◌<◌, ◌≤◌, ◌+◌, ◌^◌, ℕ, min, List, [], ◌∷◌, ◌++◌, length, take, ⊎_elim, sym, ap, ◌∙◌, arith, subst, get_or}
 use Rattle.std.proofs.lemmas.List.{append-nil, get_or_default, length-append}
 use Rattle.std.proofs.lemmas.List.Edits.{length-insert}
-use Rattle.std.specs.Prelude.{All, AllPairs, Any, Contains, insert}
+use Rattle.std.specs.Prelude.{All, AllPairs, Contains, Option, Some, None, MatchOption, insert}
 use Rattle.std.proofs.lemmas.List.Elements.{All-nil, All-head, All-push, All-contains, All-contains_itself, All-more, All-weaker, Contains-get_or}
 use Rattle.trop_theory.specs.Semiring.{Semiring, SemiringLaws}
 use Rattle.trop_theory.specs.Vectors.{dot}
@@ -29,7 +29,8 @@ use Rattle.trop_dd.specs.Carried.{rows_of, found_rows, IsNext}
 use Rattle.trop_dd.specs.Parts.{IsSplit}
 use Rattle.trop_dd.specs.Steps.{AreFound, Grows, HasGiven}
 use Rattle.trop_dd.proofs.Places.{row_read, length-rows, Contains-row}
-use Rattle.trop_dd.proofs.Numbers.{length-found, found_read, found-put, more_numbers}
+use Rattle.trop_dd.proofs.Numbers.{length-found, old_read, found-put, more_numbers}
+use Rattle.trop_dd.proofs.Starts.{IsStart}
 use Rattle.trop_theory.proofs.Placing.{only_placed}
 
 module _ {V : Type 0} {R : Semiring V} (laws : SemiringLaws R) (n : ℕ) (system : List (Inequality V)) (p : Inequality V)
@@ -38,162 +39,163 @@ module _ {V : Type 0} {R : Semiring V} (laws : SemiringLaws R) (n : ℕ) (system
   blank : Side V
   blank = record { row = []; words = record { support = 0; types = 0; cover = 0 }; slots = []; places = [] }
 
-  -- the rows that stay
-  abbrev rows : List (List V)
-  rows = found_rows sides [] stay
+  -- a row has a place, and each place its row
+  placed : (v : List V) → Contains next.rows v → Contains (rows_of sides) v
+  placed v c = All-contains (Contains (rows_of sides)) next.rows v next.beside c
 
-  long : length rows ≡ length stay
-  long = length-found sides [] stay
-
-  stay_row : (i : ℕ) (e : List V) → i < length stay → get_or rows i e ≡ (get_or sides (get_or stay i 0) blank).row
-  stay_row i e l = found_read sides [] stay i e l ∙ ap (λ s. get_or (rows_of s) (get_or stay i 0) []) (append-nil sides)
-      ∙ row_read sides (get_or stay i 0) blank [] (split.stay_each i 0 l).0
-
-  rows_from : All (λ v. Contains (rows_of sides) v × HoldsOf R p.left p.right v) rows
-  rows_from i d l =
-      let li : i < length stay = omega (arith, l, long) in (
-        subst (Contains (rows_of sides)) (sym (stay_row i d li))
-            (Contains-row sides (get_or stay i 0) blank (split.stay_each i 0 li).0),
-        subst (HoldsOf R p.left p.right) (sym (stay_row i d li)) ((split.stay_each i 0 li).1 blank),
-      )
-
-  rows_all : (v : List V) → Contains (rows_of sides) v → HoldsOf R p.left p.right v → Contains rows v
-  rows_all v c h =
-      let lk : c.0 < length sides = omega (arith, c.1, length-rows sides) in
-      let here : (get_or sides c.0 blank).row ≡ v = sym (row_read sides c.0 blank v lk) ∙ c.2 in
-      let s = split.stay_all c.0 blank lk (subst (HoldsOf R p.left p.right) (sym here) h) in (
-        s.0,
-        omega (arith, s.1, long),
-        stay_row s.0 v s.1 ∙ ap (λ k. (get_or sides k blank).row)
-            (get_or_default stay s.0 0 c.0 s.1 ∙ s.2) ∙ here,
-      )
-
-  rows_ascending : AllPairs (RowBelow R) rows
-  rows_ascending i j d lt l =
-      let lj : j < length stay = omega (arith, l, long) in
-      let li : i < length stay = omega (arith, lt, lj) in
-      let ki = (split.stay_each i 0 li).0 in
-      let kj = (split.stay_each j 0 lj).0 in
-      subst (λ v. RowBelow R v (get_or rows j d)) (sym
-      (stay_row i d li ∙ sym (row_read sides (get_or stay i 0) blank [] ki)))
-      (subst (RowBelow R (get_or (rows_of sides) (get_or stay i 0) []))
-      (sym (stay_row j d lj ∙ sym (row_read sides (get_or stay j 0) blank [] kj)))
-      (next.described.canonical.ascending (get_or stay i 0) (get_or stay j 0) [] (split.stay_ascending i j 0 lt lj)
-      (omega (arith, kj, length-rows sides))))
-
-  -- the rows at which the inequality is true are extreme in the smaller cone
-  pub found_at_start : (fresh : List (Side V)) → fresh ≡ [] → AreFound R n system p sides fresh stay
-  found_at_start fresh e = subst (λ f. AreFound R n system p sides f stay) (sym e) (record {
-    within = λ i d l. subst (λ s. get_or stay i d < length s) (sym (append-nil sides)) (split.stay_each i d l).0;
-    stay = λ i d l f lt. (split.stay_each i d l).1 f;
-    few = omega arith;
-    carried = All-nil (IsSide R n (system ++ p ∷ []));
-    ascending = rows_ascending;
-    normal = λ k d l. All-contains (IsNormal R) (rows_of sides) (get_or rows k d) next.described.canonical.normal
-        (rows_from k d l).0;
-    extreme = λ k d l. kept_stays_extreme laws n system p (get_or rows k d) next.last
-        (All-contains (IsExtreme R (Solves R n system)) (rows_of sides)
-        (get_or rows k d) next.described.canonical.extreme (rows_from k d l).0)
-        (rows_from k d l).1;
-  })
-
-  pub within_at_start : length stay ≤ row_limit
-  within_at_start = omega (
-    arith,
-    long,
-    no_longer rows (rows_of sides) (ascending_distinct R rows rows_ascending)
-        (λ k d l. (rows_from k d l).0),
-    next.described.within,
-  )
-
-  module _ (start fresh : List (Side V)) (order : List ℕ) (before after : ℕ) (none : start ≡ [])
-      (found : AreFound R n system p sides fresh order)
-      (grown : Grows (found_rows sides start stay) (found_rows sides fresh order) before after)
-      (tried : All (λ first. All (HasGiven R n system p sides (found_rows sides fresh order) first) dropped) kept) where
-    abbrev new : List (List V)
-    new = found_rows sides fresh order
-
-    grows : Grows rows new before after
-    grows = subst (λ f. Grows (found_rows sides f stay) new before after) none grown
-
-    contains_stay : (v : List V) → Contains (rows_of sides) v → HoldsOf R p.left p.right v → Contains new v
-    contains_stay v c h = All-contains (Contains new) rows v grows.stay (rows_all v c h)
-
-    from_pair : (v w x : List V) (t : ℕ) → Contains (rows_of sides) v → Contains (rows_of sides) w →
-        HoldsOf R p.left p.right v → dot R p.right v ≢ R.zero → (HoldsOf R p.left p.right w → ⊥) →
-        GivesTyped R n system p v w x t → Contains new x
-    from_pair v w x t cv cw holds finite fails g =
-        let lv : cv.0 < length sides = omega (arith, cv.1, length-rows sides) in
-        let lw : cw.0 < length sides = omega (arith, cw.1, length-rows sides) in
-        let here_v : v ≡ (get_or sides cv.0 blank).row = sym cv.2 ∙ row_read sides cv.0 blank v lv in
-        let here_w : w ≡ (get_or sides cw.0 blank).row = sym cw.2 ∙ row_read sides cw.0 blank w lw in
-        let first = split.kept_all cv.0 blank lv (subst (HoldsOf R p.left p.right) here_v holds)
-        (λ z. finite (ap (dot R p.right) here_v ∙ z)) in
-        let second = split.dropped_all cw.0 blank lw (λ s. fails (subst (HoldsOf R p.left p.right) (sym here_w) s)) in
-        let at_v : v ≡ (get_or sides first.1.place blank).row =
-        here_v ∙ ap (λ k. (get_or sides k blank).row) (sym first.4) in
-        let at_w : w ≡ (get_or sides second.1.place blank).row =
-        here_w ∙ ap (λ k. (get_or sides k blank).row) (sym second.4) in
-        All-contains (HasGiven R n system p sides new first.1) dropped second.1
-        (All-contains (λ part. All (HasGiven R n system p sides new part) dropped) kept first.1 tried
-        (first.0, first.2, first.3))
-        (second.0, second.2, second.3) blank blank x t
-        (subst (λ y. GivesTyped R n system p y (get_or sides second.1.place blank).row x t) at_v
-        (subst (λ y. GivesTyped R n system p v y x t) at_w g))
-
-    is_narrowed : IsNarrowed laws n system p (rows_of sides) new
-    is_narrowed = narrowed_from_typed laws n system p (rows_of sides) next.inside next.last next.described.canonical
-        next.described.generates new found.ascending found.normal found.extreme contains_stay from_pair
-
-    -- the rows that were found describe the longer system
-    pub narrowed_describes : length order ≤ row_limit → Describes R n (system ++ p ∷ []) new
-    narrowed_describes l = record {
-      canonical = narrowed_canonical laws n system p (rows_of sides) new next.last next.described.canonical
-          next.described.generates is_narrowed;
-      generates = narrowed_generates laws n system p (rows_of sides) new next.last next.described.canonical
-          next.described.generates is_narrowed;
-      within = omega (arith, l, length-found sides fresh order);
-    }
-
-    -- and each new one was looked at
-    pub narrowed_counts : CountsNew R (rows_of sides) new before after
-    narrowed_counts others ascending inside apart =
-        let both = fresh_and_kept R (rows_of sides) new others rows ascending inside apart rows_ascending grows.stay
-        (λ k d l. (rows_from k d l).0) in
-        omega (arith, both, grows.counted)
+  row_in : (k : ℕ) → k < length sides → Contains next.rows (get_or sides k blank).row
+  row_in k l = All-contains (Contains next.rows) (rows_of sides) (get_or sides k blank).row next.only
+      (Contains-row sides k blank l)
 
   -- where no row is dropped all stay
   module _ (none : dropped ≡ []) where
-    all_hold : (v : List V) → Contains (rows_of sides) v → HoldsOf R p.left p.right v
-    all_hold v c = ⊎_elim
+    all_hold : (v : List V) → Contains next.rows v → HoldsOf R p.left p.right v
+    all_hold v among = ⊎_elim
         (λ h. h)
         (λ f.
+        let c = placed v among in
         let lk : c.0 < length sides = omega (arith, c.1, length-rows sides) in
         let here : (get_or sides c.0 blank).row ≡ v = sym (row_read sides c.0 blank v lk) ∙ c.2 in
         let some = split.dropped_all c.0 blank lk (λ h. f (subst (HoldsOf R p.left p.right) here h)) in
         absurd (omega (arith, some.2, ap length none)))
         (laws.discrete (R.plus (dot R p.left v) (dot R p.right v)) (dot R p.right v))
 
-    kept_narrowed : IsNarrowed laws n system p (rows_of sides) (rows_of sides)
-    kept_narrowed = narrowed_from_typed laws n system p (rows_of sides) next.inside next.last next.described.canonical
-        next.described.generates (rows_of sides) next.described.canonical.ascending next.described.canonical.normal
-        (λ k d l. kept_stays_extreme laws n system p (get_or (rows_of sides) k d) next.last
+    kept_narrowed : IsNarrowed laws n system p next.rows next.rows
+    kept_narrowed = narrowed_from_typed laws n system p next.rows next.inside next.last next.described.canonical
+        next.described.generates next.rows next.described.canonical.ascending next.described.canonical.normal
+        (λ k d l. kept_stays_extreme laws n system p (get_or next.rows k d) next.last
         (next.described.canonical.extreme k d l)
-        (all_hold (get_or (rows_of sides) k d) (Contains-get_or (rows_of sides) k d l)))
+        (all_hold (get_or next.rows k d) (Contains-get_or next.rows k d l)))
         (λ v c h. c)
         (λ v w x t cv cw holds finite fails g. absurd (fails (all_hold w cw)))
 
-    pub kept_describes : Describes R n (system ++ p ∷ []) (rows_of sides)
+    pub kept_describes : Describes R n (system ++ p ∷ []) next.rows
     kept_describes = record {
-      canonical = narrowed_canonical laws n system p (rows_of sides)
-          (rows_of sides) next.last next.described.canonical next.described.generates kept_narrowed;
-      generates = narrowed_generates laws n system p (rows_of sides)
-          (rows_of sides) next.last next.described.canonical next.described.generates kept_narrowed;
+      canonical = narrowed_canonical laws n system p next.rows
+          next.rows next.last next.described.canonical next.described.generates kept_narrowed;
+      generates = narrowed_generates laws n system p next.rows
+          next.rows next.last next.described.canonical next.described.generates kept_narrowed;
       within = next.described.within;
     }
 
     pub all_hold_at : (k : ℕ) (d : Side V) → k < length sides → HoldsOf R p.left p.right (get_or sides k d).row
-    all_hold_at k d l = all_hold (get_or sides k d).row (Contains-row sides k d l)
+    all_hold_at k d l = all_hold (get_or sides k d).row
+        (All-contains (Contains next.rows) (rows_of sides) (get_or sides k d).row next.only (Contains-row sides k d l))
+
+  -- where some are dropped, those that stay are known by their numbers
+  module _ (start : List ℕ) (starts : IsStart R p sides start) where
+    -- the rows that stay
+    abbrev rows : List (List V)
+    rows = found_rows sides [] start
+
+    long : length rows ≡ length start
+    long = length-found sides [] start
+
+    start_row : (i : ℕ) (e : List V) → i < length start → get_or rows i e ≡ (get_or sides (get_or start i 0) blank).row
+    start_row i e l = old_read sides start i blank e l (starts.each i 0 l).0
+
+    rows_from : All (λ v. Contains next.rows v × HoldsOf R p.left p.right v) rows
+    rows_from i d l =
+        let li : i < length start = omega (arith, l, long) in (
+          subst (Contains next.rows) (sym (start_row i d li)) (row_in (get_or start i 0) (starts.each i 0 li).0),
+          subst (HoldsOf R p.left p.right) (sym (start_row i d li)) ((starts.each i 0 li).1 blank),
+        )
+
+    rows_all : (v : List V) → Contains next.rows v → HoldsOf R p.left p.right v → Contains rows v
+    rows_all v among h =
+        let c = placed v among in
+        let lk : c.0 < length sides = omega (arith, c.1, length-rows sides) in
+        let here : (get_or sides c.0 blank).row ≡ v = sym (row_read sides c.0 blank v lk) ∙ c.2 in
+        let s = starts.all c.0 blank lk (subst (HoldsOf R p.left p.right) (sym here) h) in (
+          s.0,
+          omega (arith, s.1, long),
+          start_row s.0 v s.1 ∙ ap (λ k. (get_or sides k blank).row)
+              (get_or_default start s.0 0 c.0 s.1 ∙ s.2) ∙ here,
+        )
+
+    -- the rows at which the inequality is true are extreme in the smaller cone
+    pub found_at_start : (fresh : List (Side V)) → fresh ≡ [] → AreFound R n system p sides fresh start
+    found_at_start fresh e = subst (λ f. AreFound R n system p sides f start) (sym e) (record {
+      within = λ i d l. subst (λ s. get_or start i d < length s) (sym (append-nil sides)) (starts.each i d l).0;
+      stay = λ i d l f lt. (starts.each i d l).1 f;
+      few = omega arith;
+      carried = All-nil (IsSide R n (system ++ p ∷ []));
+      ascending = starts.ascending;
+      normal = λ k d l. All-contains (IsNormal R) next.rows (get_or rows k d) next.described.canonical.normal
+          (rows_from k d l).0;
+      extreme = λ k d l. kept_stays_extreme laws n system p (get_or rows k d) next.last
+          (All-contains (IsExtreme R (Solves R n system)) next.rows
+          (get_or rows k d) next.described.canonical.extreme (rows_from k d l).0)
+          (rows_from k d l).1;
+    })
+
+    pub within_at_start : length start ≤ row_limit
+    within_at_start = omega (
+      arith,
+      long,
+      no_longer rows next.rows (ascending_distinct R rows starts.ascending)
+          (λ k d l. (rows_from k d l).0),
+      next.described.within,
+    )
+
+    module _ (first fresh : List (Side V)) (order : List ℕ) (before after : ℕ) (none : first ≡ [])
+        (found : AreFound R n system p sides fresh order)
+        (grown : Grows (found_rows sides first start) (found_rows sides fresh order) before after)
+        (tried : All (λ part. All (HasGiven R n system p sides (found_rows sides fresh order) part) dropped) kept) where
+      abbrev new : List (List V)
+      new = found_rows sides fresh order
+
+      grows : Grows rows new before after
+      grows = subst (λ f. Grows (found_rows sides f start) new before after) none grown
+
+      contains_stay : (v : List V) → Contains next.rows v → HoldsOf R p.left p.right v → Contains new v
+      contains_stay v c h = All-contains (Contains new) rows v grows.stay (rows_all v c h)
+
+      from_pair : (v w x : List V) (t : ℕ) → Contains next.rows v → Contains next.rows w →
+          HoldsOf R p.left p.right v → dot R p.right v ≢ R.zero → (HoldsOf R p.left p.right w → ⊥) →
+          GivesTyped R n system p v w x t → Contains new x
+      from_pair v w x t in_v in_w holds finite fails g =
+          let cv = placed v in_v in
+          let cw = placed w in_w in
+          let lv : cv.0 < length sides = omega (arith, cv.1, length-rows sides) in
+          let lw : cw.0 < length sides = omega (arith, cw.1, length-rows sides) in
+          let here_v : v ≡ (get_or sides cv.0 blank).row = sym cv.2 ∙ row_read sides cv.0 blank v lv in
+          let here_w : w ≡ (get_or sides cw.0 blank).row = sym cw.2 ∙ row_read sides cw.0 blank w lw in
+          let first = split.kept_all cv.0 blank lv (subst (HoldsOf R p.left p.right) here_v holds)
+          (λ z. finite (ap (dot R p.right) here_v ∙ z)) in
+          let second = split.dropped_all cw.0 blank lw (λ s. fails (subst (HoldsOf R p.left p.right) (sym here_w) s)) in
+          let at_v : v ≡ (get_or sides first.1.place blank).row =
+          here_v ∙ ap (λ k. (get_or sides k blank).row) (sym first.4) in
+          let at_w : w ≡ (get_or sides second.1.place blank).row =
+          here_w ∙ ap (λ k. (get_or sides k blank).row) (sym second.4) in
+          All-contains (HasGiven R n system p sides new first.1) dropped second.1
+          (All-contains (λ part. All (HasGiven R n system p sides new part) dropped) kept first.1 tried
+          (first.0, first.2, first.3))
+          (second.0, second.2, second.3) blank blank x t
+          (subst (λ y. GivesTyped R n system p y (get_or sides second.1.place blank).row x t) at_v
+          (subst (λ y. GivesTyped R n system p v y x t) at_w g))
+
+      is_narrowed : IsNarrowed laws n system p next.rows new
+      is_narrowed = narrowed_from_typed laws n system p next.rows next.inside next.last next.described.canonical
+          next.described.generates new found.ascending found.normal found.extreme contains_stay from_pair
+
+      -- the rows that were found describe the longer system
+      pub narrowed_describes : length order ≤ row_limit → Describes R n (system ++ p ∷ []) new
+      narrowed_describes l = record {
+        canonical = narrowed_canonical laws n system p next.rows new next.last next.described.canonical
+            next.described.generates is_narrowed;
+        generates = narrowed_generates laws n system p next.rows new next.last next.described.canonical
+            next.described.generates is_narrowed;
+        within = omega (arith, l, length-found sides fresh order);
+      }
+
+      -- and each new one was looked at
+      pub narrowed_counts : CountsNew R (rows_of sides) new before after
+      narrowed_counts others ascending inside apart =
+          let both = fresh_and_kept R next.rows new others rows ascending inside
+          (λ k d l c. apart k d l (placed (get_or others k d) c)) starts.ascending grows.stay
+          (λ k d l. (rows_from k d l).0) in
+          omega (arith, both, grows.counted)
 
 -- no row is new
 pub counts_none : {V : Type 0} (R : Semiring V) (rows : List (List V)) (before after : ℕ) → before ≤ after →
@@ -206,6 +208,18 @@ pub counts_later : {V : Type 0} (R : Semiring V) (old new : List (List V)) (befo
     before ≤ between → CountsNew R old new between after → CountsNew R old new before after
 counts_later R old new before between after l h fresh ascending inside apart = let few =
     h fresh ascending inside apart in omega arith
+
+-- where others have the old rows
+pub counts_among : {V : Type 0} (R : Semiring V) (old others new_rows : List (List V)) (before after : ℕ) →
+    All (Contains others) old → CountsNew R old new_rows before after → CountsNew R others new_rows before after
+counts_among R old others new_rows before after among h fresh ascending inside apart = h fresh ascending inside
+    (λ k d l c. apart k d l (All-contains (Contains others) old (get_or fresh k d) among c))
+
+-- what is said of an answer that may be none
+pub match_rows : {X : Type 0} (o : Option X) (A B : Type 0) (P Q : X → Type 0) → (A → B) → ((x : X) → P x → Q x) →
+    MatchOption o A P → MatchOption o B Q
+match_rows None A B P Q f g h = f h
+match_rows (Some x) A B P Q f g h = g x h
 
 module _ {V : Type 0} where
   pub grows_none : (rows : List (List V)) (before after : ℕ) → before ≤ after → Grows rows rows before after

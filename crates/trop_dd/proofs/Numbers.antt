@@ -1,14 +1,15 @@
 -- Rows by their numbers, where new rows come behind the old ones.
 use Rattle.std.proofs.Common.{◌≡◌, ◌<◌, ◌≤◌, ◌+◌, ◌-◌, ℕ, suc, List, [], ◌∷◌, ◌++◌, length, take, drop, sym, ap, ap₂, ◌∙◌, refl, arith, subst, get_or, append_assoc}
-use Rattle.std.specs.Prelude.{All, AllPairs, insert, map}
+use Rattle.std.specs.Prelude.{All, AllPairs, Contains, insert, map}
 use Rattle.std.proofs.Math.Seq.{get_or-append_right}
-use Rattle.std.proofs.lemmas.List.{get_or-map, length-map, length-append, map-append, take-map, drop-map, get_or_append_left, get_or_push, get_or_default}
+use Rattle.std.proofs.lemmas.List.{get_or-map, length-map, length-append, map-append, take-map, drop-map, get_or_append_left, get_or_push, get_or_default, append-nil, same_lists}
 use Rattle.trop_theory.specs.Semiring.{Semiring}
 use Rattle.trop_theory.specs.Canonical.{RowBelow}
 use Rattle.trop_theory.proofs.Distinct.{row_below_itself}
 use Rattle.trop_pruning.specs.Judged.{Side}
+use Rattle.trop_dd.specs.Numbers.{AreNumbers}
 use Rattle.trop_dd.specs.Carried.{rows_of, found_rows}
-use Rattle.trop_dd.proofs.Places.{row_read, length-rows}
+use Rattle.trop_dd.proofs.Places.{row_read, length-rows, Contains-row}
 
 -- a list with one more element somewhere
 map_insert : {X Y : Type 0} (f : X → Y) (xs : List X) (i : ℕ) (x : X) →
@@ -86,3 +87,51 @@ module _ {V : Type 0} (sides fresh : List (Side V)) where
         ∙ ap₂ (λ rows r. insert rows place r) (map_alike (λ k. get_or (rows_of (sides ++ (fresh ++ side ∷ []))) k [])
         (λ k. get_or (rows_of (sides ++ fresh)) k []) order (λ i d l. old_row (get_or order i d) (within i d l)))
         new_row
+
+-- rows of which none is new
+module _ {V : Type 0} (sides : List (Side V)) where
+  blank : Side V
+  blank = record { row = []; words = record { support = 0; types = 0; cover = 0 }; slots = []; places = [] }
+
+  pub old_read : (order : List ℕ) (i : ℕ) (d : Side V) (e : List V) → i < length order → get_or order i 0 < length sides →
+      get_or (found_rows sides [] order) i e ≡ (get_or sides (get_or order i 0) d).row
+  old_read order i d e l within = found_read sides [] order i e l
+      ∙ ap (λ s. get_or (rows_of s) (get_or order i 0) []) (append-nil sides)
+      ∙ row_read sides (get_or order i 0) d [] within
+
+  -- rows in an order are those of all places
+  module _ (order : List ℕ) (numbers : AreNumbers (length sides) order) where
+    pub found_beside : All (Contains (rows_of sides)) (found_rows sides [] order)
+    found_beside i d l =
+        let li : i < length order = omega (arith, l, length-found sides [] order) in
+        subst (Contains (rows_of sides)) (sym (old_read order i blank d li (numbers.within i 0 li)))
+        (Contains-row sides (get_or order i 0) blank (numbers.within i 0 li))
+
+    pub found_only : All (Contains (found_rows sides [] order)) (rows_of sides)
+    found_only k d l =
+        let lk : k < length sides = omega (arith, l, length-rows sides) in
+        let at = numbers.all k lk in (
+          at.0,
+          omega (arith, at.1, length-found sides [] order),
+          old_read order at.0 blank (get_or (rows_of sides) k d) at.1 (numbers.within at.0 0 at.1)
+              ∙ ap (λ j. (get_or sides j blank).row) (get_or_default order at.0 0 k at.1 ∙ at.2)
+              ∙ sym (row_read sides k blank d lk),
+        )
+
+  -- the same rows in the same order
+  pub found_alike : (others : List (Side V)) (order : List ℕ) → rows_of sides ≡ rows_of others →
+      found_rows sides [] order ≡ found_rows others [] order
+  found_alike others order e =
+      let both : rows_of (sides ++ []) ≡ rows_of (others ++ []) = ap rows_of (append-nil sides) ∙ e
+      ∙ sym (ap rows_of (append-nil others)) in
+      ap (λ rows. map (λ k. get_or rows k []) order) both
+
+  -- numbers that are places
+  pub found_itself : (order : List ℕ) → length order ≡ length sides →
+      ((k : ℕ) → k < length sides → get_or order k 0 ≡ k) → found_rows sides [] order ≡ rows_of sides
+  found_itself order e same = same_lists (found_rows sides [] order) (rows_of sides)
+      (length-found sides [] order ∙ e ∙ sym (length-rows sides)) (λ k d l.
+      let lo : k < length order = omega (arith, l, length-found sides [] order) in
+      let ls : k < length sides = omega (arith, lo, e) in
+      old_read order k blank d lo (omega (arith, same k ls, ls)) ∙ ap (λ j. (get_or sides j blank).row) (same k ls)
+      ∙ sym (row_read sides k blank d ls))

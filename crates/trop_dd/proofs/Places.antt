@@ -1,15 +1,15 @@
 -- What is known of a row of the list and of what is carried beside it.
-use Rattle.std.proofs.Common.{◌≡◌, ◌<◌, ◌≤◌, ◌+◌, ◌^◌, ℕ, List, [], ◌∷◌, length, sym, ap, ◌∙◌, arith, subst, get_or}
+use Rattle.std.proofs.Common.{◌≡◌, ◌<◌, ◌≤◌, ◌^◌, ℕ, List, [], length, sym, ap, arith, get_or}
 use Rattle.std.specs.Prelude.{All, Contains}
 use Rattle.std.proofs.lemmas.List.{get_or-map, length-map, get_or_default}
+use Rattle.std.proofs.lemmas.List.Elements.{All-contains}
 use Rattle.trop_theory.specs.Semiring.{Semiring, SemiringLaws}
-use Rattle.trop_theory.specs.Vectors.{dot, row_size}
+use Rattle.trop_theory.specs.Vectors.{row_size}
 use Rattle.trop_theory.specs.Normal.{IsNormal}
-use Rattle.trop_theory.specs.Inequalities.{Inequality, Solves, inequality_size, system_size}
+use Rattle.trop_theory.specs.Inequalities.{Inequality, Solves, system_size}
 use Rattle.trop_theory.specs.Extreme.{IsExtreme}
 use Rattle.trop_criterion.specs.Hypergraphs.{Has}
 use Rattle.trop_criterion.proofs.Criterion.{All-system_size, reached_from_extreme, type_is_reached}
-use Rattle.trop_pruning.specs.Slots.{Slot}
 use Rattle.trop_pruning.specs.Judged.{Side, IsSide}
 use Rattle.trop_pruning.proofs.PairGraph.{slot_of}
 use Rattle.trop_pruning.proofs.SlotLists.{length-slots}
@@ -48,27 +48,23 @@ module _ {V : Type 0} {R : Semiring V} (laws : SemiringLaws R) where
 
 module _ {V : Type 0} {R : Semiring V} (laws : SemiringLaws R) (n : ℕ) (system : List (Inequality V)) (p : Inequality V)
     (sides : List (Side V)) (next : IsNext R n system p sides) (k : ℕ) (d : Side V) (l : k < length sides) where
-  at : ℕ
-  at = k
-
-  within : k < length (rows_of sides)
-  within = omega (arith, length-rows sides, l)
-
   pub side_at : IsSide R n system (get_or sides k d)
   side_at = next.each k d l
 
+  -- the row is one of those that describe the system
+  row_at : Contains next.rows (get_or sides k d).row
+  row_at = All-contains (Contains next.rows) (rows_of sides) (get_or sides k d).row next.only (Contains-row sides k d l)
+
   pub extreme_at : IsExtreme R (Solves R n system) (get_or sides k d).row
-  extreme_at = subst (IsExtreme R (Solves R n system)) (row_read sides k d (get_or sides k d).row l)
-      (next.described.canonical.extreme k (get_or sides k d).row within)
+  extreme_at = All-contains (IsExtreme R (Solves R n system)) next.rows (get_or sides k d).row
+      next.described.canonical.extreme row_at
 
   pub normal_at : IsNormal R (get_or sides k d).row
-  normal_at = subst (IsNormal R) (row_read sides k d (get_or sides k d).row l)
-      (next.described.canonical.normal k (get_or sides k d).row within)
+  normal_at = All-contains (IsNormal R) next.rows (get_or sides k d).row next.described.canonical.normal row_at
 
   pub size_at : row_size R (get_or sides k d).row ≤ 2 ^ 57
-  size_at = subst (λ v. row_size R v ≤ 2 ^ 57) (row_read sides k d (get_or sides k d).row l)
-      (described_fit laws n system (rows_of sides) next.inside next.described next.at_most next.size k
-      (get_or sides k d).row within)
+  size_at = All-contains (λ v. row_size R v ≤ 2 ^ 57) next.rows (get_or sides k d).row
+      (described_fit laws n system next.rows next.inside next.described next.at_most next.size) row_at
 
   pub some_type : (t : ℕ) × Has (get_or sides k d).words.types t
   some_type =

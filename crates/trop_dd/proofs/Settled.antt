@@ -2,15 +2,16 @@
 --   IsTakenBack, taken_first, taken_more, taken_all: slots that are taken off again
 --   put_first, put_more, put_failed, put_end: slots that are put beside the rows, one after another
 --   IsSettledTo, settled_first, settled_edge, settled_loose, settled_all: words that belong to them
---   IsArrangedTo, arranged_first, arranged_more: rows that are moved by their numbers
---   settled_each, settled_rows, arranged_each, arranged_rows: what is carried beside the rows then
-use Rattle.std.proofs.Common.{◌≡◌, ◌<◌, ◌≤◌, ◌+◌, ◌-◌, ℕ, Bool, true, List, [], ◌∷◌, ◌++◌, length, set, ⊎_elim, refl, sym, ap, ◌∙◌, arith, subst, get_or}
-use Rattle.std.specs.Prelude.{All, AllPairs, nat_eq}
+--   cut_off: fresh rows that are taken off again
+--   settled_each, settled_found, settled_numbers: what is carried beside the rows then, where all stay
+--   arranged_each, arranged_found: where some are dropped
+use Rattle.std.proofs.Common.{◌≡◌, ◌<◌, ◌≤◌, ◌+◌, ◌-◌, ℕ, Bool, true, List, [], ◌∷◌, ◌++◌, length, set, take, ⊎_elim, refl, sym, ap, ◌∙◌, arith, subst, get_or}
+use Rattle.std.specs.Prelude.{All, nat_eq}
 use Rattle.std.proofs.Math.Seq.{get_or-append_right}
 use Rattle.std.proofs.lemmas.Bool.{cases_lt, cases_eq, eqb-true}
-use Rattle.std.proofs.lemmas.List.{same_lists, get_or_default, length-set, length-append, get_or-set_same, get_or-set_other, get_or_append_left}
+use Rattle.std.proofs.lemmas.List.{same_lists, get_or_default, length-set, length-append, get_or-set_same, get_or-set_other, get_or_append_left, take-append-le, take_all}
 use Rattle.trop_theory.specs.Semiring.{Semiring, SemiringLaws}
-use Rattle.trop_theory.specs.Inequalities.{Inequality, IsIn}
+use Rattle.trop_theory.specs.Inequalities.{Inequality}
 use Rattle.trop_theory.proofs.Truth.{HoldsOf, truth}
 use Rattle.trop_criterion.specs.Hypergraphs.{Has}
 use Rattle.trop_pruning.specs.Slots.{Slot}
@@ -19,12 +20,13 @@ use Rattle.trop_pruning.specs.Judged.{Side, IsSide}
 use Rattle.trop_pruning.specs.Kept.{IsPut, IsSettled}
 use Rattle.trop_pruning.proofs.KeptSides.{IsSide-settled, IsSettled-row, IsSettled-edge, IsSettled-loose}
 use Rattle.trop_pairs.specs.declared.keeping.Addition.{Addition}
+use Rattle.trop_dd.specs.Numbers.{AreNumbers}
 use Rattle.trop_dd.specs.Carried.{rows_of, found_rows, IsNext}
 use Rattle.trop_dd.specs.Parts.{AreAdditions}
 use Rattle.trop_dd.specs.Settled.{ArePut, AreSettled, AreArranged}
 use Rattle.trop_dd.specs.Steps.{AreFound}
 use Rattle.trop_dd.proofs.Places.{row_read, length-rows}
-use Rattle.trop_dd.proofs.Numbers.{number_row, length-found, found_read}
+use Rattle.trop_dd.proofs.Numbers.{number_row, length-found, found_read, found_alike, old_read}
 
 -- a list of length zero
 pub none_from_empty : {X : Type 0} (xs : List X) (b : Bool) → b ≡ nat_eq (length xs) 0 → b ≡ true → xs ≡ []
@@ -131,19 +133,17 @@ module _ {V : Type 0} (R : Semiring V) where
     put_failed same = subst (ArePut k olds additions)
         (sym (set_itself now next k new within e (same ∙ read ∙ get_or_default now k elem new within))) h
 
-  pub put_end : (olds now : List (Side V)) (additions : List (Addition V)) (k : ℕ) → length olds ≤ k →
-      ArePut k olds additions now → ArePut (length olds) olds additions now
-  put_end olds now additions k le h = record {
-    many = h.many;
-    put = λ j d f l m. h.put j d f (omega (arith, le, m)) m;
-    rest = λ j d l m. absurd (omega (arith, l, m));
-  }
+  pub put_end : (olds now : List (Side V)) (additions : List (Addition V)) (k : ℕ) → length additions ≤ k →
+      k ≤ length additions → ArePut k olds additions now → ArePut (length additions) olds additions now
+  put_end olds now additions k le ge h =
+      let e : k ≡ length additions = omega arith in
+      subst (λ m. ArePut m olds additions now) e h
 
 -- the words of the first k rows are settled
 pub record IsSettledTo {V : Type 0} (additions : List (Addition V)) (start : List (Side V)) (k : ℕ)
     (now : List (Side V)) : Type 0 where
   pub long : length now ≡ length start
-  pub settled : (before : List (Side V)) → ArePut (length before) before additions start →
+  pub settled : (before : List (Side V)) → ArePut (length additions) before additions start →
       (j : ℕ) (d : Side V) (f : Addition V) → j < k → j < length before →
       IsSettled (get_or before j d) (get_or additions j f).slot (get_or additions j f).types
       (get_or additions j f).alone (get_or now j d)
@@ -158,12 +158,13 @@ module _ {V : Type 0} where
         λ j d l. refl;
   }
 
-  pub settled_all : (additions : List (Addition V)) (start now : List (Side V)) (k : ℕ) → length start ≤ k →
-      IsSettledTo additions start k now → (before : List (Side V)) → ArePut (length before) before additions start →
-      AreSettled before additions now
-  settled_all additions start now k le h before p = record {
+  pub settled_all : (additions : List (Addition V)) (start now : List (Side V)) (k : ℕ) → length additions ≤ k →
+      k ≤ length additions → IsSettledTo additions start k now → (before : List (Side V)) →
+      ArePut (length additions) before additions start → AreSettled before additions now
+  settled_all additions start now k le ge h before p = record {
     many = h.long ∙ p.many;
-    settled = λ j d f l. h.settled before p j d f (omega (arith, le, l, p.many)) l;
+    settled = λ j d f l m. h.settled before p j d f (omega (arith, le, l)) m;
+    rest = λ j d l m. h.rest j d (omega (arith, ge, l)) ∙ p.rest j d l m;
   }
 
   module _ (additions : List (Addition V)) (start now : List (Side V)) (k : ℕ) (lt : k < length start)
@@ -190,7 +191,7 @@ module _ {V : Type 0} where
           (here (get_or before k d) d
           (subst (IsPut (get_or before k d) added.slot) (sym (h.rest k d (omega arith)))
           (subst (λ a. IsPut (get_or before k d) a.slot (get_or start k d)) (sym (at_k f))
-          (p.put k d f (omega (arith, at, m)) (omega (arith, at, m))))))))
+          (p.put k d f (omega (arith, many)) (omega (arith, at, m))))))))
           (λ ne. subst (IsSettled (get_or before j d) (get_or additions j f).slot (get_or additions j f).types
           (get_or additions j f).alone) (sym (there j d ne)) (h.settled before p j d f (omega (arith, l, ne)) m))
           (cases_eq j k);
@@ -215,146 +216,113 @@ module _ {V : Type 0} where
         (λ old d put. IsSettled-loose old (get_or now k d) (get_or now k d) added.slot added.types added.alone put
         none refl)
 
--- what changes at one place of two lists together
-pub pool_left : {X : Type 0} (olds news ys : List X) (number : ℕ) → length news ≡ length olds →
-    ((k : ℕ) (d : X) → (k ≡ number → ⊥) → get_or news k d ≡ get_or olds k d) → (k : ℕ) (d : X) → (k ≡ number → ⊥) →
-    get_or (news ++ ys) k d ≡ get_or (olds ++ ys) k d
-pool_left olds news ys number e h k d ne = ⊎_elim
-    (λ lt. get_or_append_left news ys d k (omega (arith, e, lt)) ∙ h k d ne ∙ sym (get_or_append_left olds ys d k lt))
-    (λ le. get_or-append_right news ys k d (omega (arith, e, le)) ∙ ap (λ m. get_or ys (k - m) d) e
-    ∙ sym (get_or-append_right olds ys k d le))
-    (cases_lt k (length olds))
-
-pub pool_right : {X : Type 0} (xs olds news : List X) (number at : ℕ) → length xs ≤ number → at ≡ number - length xs →
-    ((k : ℕ) (d : X) → (k ≡ at → ⊥) → get_or news k d ≡ get_or olds k d) → (k : ℕ) (d : X) → (k ≡ number → ⊥) →
-    get_or (xs ++ news) k d ≡ get_or (xs ++ olds) k d
-pool_right xs olds news number at far e h k d ne = ⊎_elim
-    (λ lt. get_or_append_left xs news d k lt ∙ sym (get_or_append_left xs olds d k lt))
-    (λ le. get_or-append_right xs news k d le ∙ h (k - length xs) d (λ same. ne (omega (arith, same, e, far, le)))
-    ∙ sym (get_or-append_right xs olds k d le))
-    (cases_lt k (length xs))
-
--- the rows of the first k numbers are moved
-pub record IsArrangedTo {V : Type 0} (sides fresh : List (Side V)) (order : List ℕ) (k : ℕ)
-    (all now rest : List (Side V)) : Type 0 where
-  pub many : length all ≡ length order
-  pub long : length now ≡ length sides
-  pub fresh_long : length rest ≡ length fresh
-  pub here : (i : ℕ) (d : Side V) → i < k → get_or all i d ≡ get_or (sides ++ fresh) (get_or order i 0) d
-  pub others : (m : ℕ) (d : Side V) → ((i : ℕ) → i < k → get_or order i 0 ≡ m → ⊥) →
-      get_or (now ++ rest) m d ≡ get_or (sides ++ fresh) m d
-
-module _ {V : Type 0} (sides fresh : List (Side V)) (order : List ℕ) where
-  pub arranged_first : (all : List (Side V)) → length all ≡ length order →
-      IsArrangedTo sides fresh order 0 all sides fresh
-  arranged_first all e = record {
-    many = e;
-    long = refl;
-    fresh_long = refl;
-    here = λ i d l. absurd (omega arith);
-    others = λ m d out. refl;
-  }
-
-  pub arranged_more : (distinct : AllPairs (λ i j. i ≡ j → ⊥) order) (k number : ℕ)
-      (all now rest all_next next rest_next : List (Side V)) → k < length order → number ≡ get_or order k number →
-      IsArrangedTo sides fresh order k all now rest → length all_next ≡ length all → length next ≡ length now →
-      length rest_next ≡ length rest → ((d : Side V) → get_or all_next k d ≡ get_or (now ++ rest) number d) →
-      ((i : ℕ) (d : Side V) → (i ≡ k → ⊥) → get_or all_next i d ≡ get_or all i d) →
-      ((m : ℕ) (d : Side V) → (m ≡ number → ⊥) → get_or (next ++ rest_next) m d ≡ get_or (now ++ rest) m d) →
-      IsArrangedTo sides fresh order (k + 1) all_next next rest_next
-  arranged_more distinct k number all now rest all_next next rest_next lt read h la ln lr here others gone =
-      let at : number ≡ get_or order k 0 = read ∙ get_or_default order k number 0 lt in
-      record {
-        many = la ∙ h.many;
-        long = ln ∙ h.long;
-        fresh_long = lr ∙ h.fresh_long;
-        here = λ i d l. ⊎_elim
-            (λ e.
-            ap (λ j. get_or all_next j d) e ∙ here d
-            ∙ h.others number d (λ j m same. distinct j k 0 m lt (same ∙ at))
-            ∙ ap (λ m. get_or (sides ++ fresh) m d) (at ∙ ap (λ j. get_or order j 0) (sym e)))
-            (λ ne. others i d ne ∙ h.here i d (omega (arith, l, ne)))
-            (cases_eq i k);
-        others = λ m d out. gone m d (λ e. out k (omega arith) (sym at ∙ sym e))
-            ∙ h.others m d (λ i l same. out i (omega arith) same);
-      }
+-- the fresh rows behind are taken off again
+pub cut_off : {X : Type 0} (xs ys zs : List X) (many : ℕ) → many ≡ length xs → zs ≡ xs ++ ys → take many zs ≡ xs
+cut_off xs ys zs many em e = ap (λ m. take m zs) em ∙ ap (take (length xs)) e
+    ∙ take-append-le (length xs) xs ys (omega arith) ∙ take_all (length xs) xs (omega arith)
 
 -- what is carried beside the rows then
 module _ {V : Type 0} {R : Semiring V} (laws : SemiringLaws R) (n : ℕ) (system : List (Inequality V)) (p : Inequality V)
     (sides : List (Side V)) (next : IsNext R n system p sides) (additions : List (Addition V))
     (added : AreAdditions R n system p sides (length sides) additions) where
-  settled_at : (news : List (Side V)) → AreSettled sides additions news → (k : ℕ) (d : Side V) → k < length sides →
-      HoldsOf R p.left p.right (get_or sides k d).row → IsSide R n (system ++ p ∷ []) (get_or news k d)
-  settled_at news h k d l holds =
-      let a = added.each k d (nothing R) l holds in
-      let side = next.each k d l in
-      let one = get_or additions k (nothing R) in
-      IsSide-settled laws n system p (get_or sides k d) (get_or news k d) one.slot next.inside next.last side
-      ((truth laws p.left p.right (get_or sides k d).row (next.last.left ∙ sym side.solves.wide)
-      (next.last.right ∙ sym side.solves.wide)).0 holds)
-      a.is_slot one.types one.alone a (h.settled k d (nothing R) l)
+  -- where the rows are the first of a list
+  module _ (olds news : List (Side V)) (longer : length sides ≤ length olds)
+      (front : (k : ℕ) (d : Side V) → k < length sides → get_or olds k d ≡ get_or sides k d)
+      (h : AreSettled olds additions news) (k : ℕ) (d : Side V) (l : k < length sides) where
+    abbrev one : Addition V
+    one = get_or additions k (nothing R)
 
-  row_at : (news : List (Side V)) → AreSettled sides additions news → (k : ℕ) (d : Side V) → k < length sides →
-      (get_or news k d).row ≡ (get_or sides k d).row
-  row_at news h k d l =
-      let one = get_or additions k (nothing R) in
-      IsSettled-row (get_or sides k d) (get_or news k d) one.slot one.types one.alone (h.settled k d (nothing R) l)
+    here : IsSettled (get_or sides k d) one.slot one.types one.alone (get_or news k d)
+    here = subst (λ s. IsSettled s one.slot one.types one.alone (get_or news k d)) (front k d l)
+        (h.settled k d (nothing R) (omega (arith, l, added.many)) (omega (arith, l, longer)))
+
+    settled_at : HoldsOf R p.left p.right (get_or sides k d).row → IsSide R n (system ++ p ∷ []) (get_or news k d)
+    settled_at holds =
+        let a = added.each k d (nothing R) l holds in
+        let side = next.each k d l in
+        IsSide-settled laws n system p (get_or sides k d) (get_or news k d) one.slot next.inside next.last side
+        ((truth laws p.left p.right (get_or sides k d).row (next.last.left ∙ sym side.solves.wide)
+        (next.last.right ∙ sym side.solves.wide)).0 holds)
+        a.is_slot one.types one.alone a here
+
+    row_at : (get_or news k d).row ≡ (get_or sides k d).row
+    row_at = IsSettled-row (get_or sides k d) (get_or news k d) one.slot one.types one.alone here
 
   -- where all rows stay
   module _ (news : List (Side V)) (h : AreSettled sides additions news) where
     pub settled_each : ((k : ℕ) (d : Side V) → k < length sides → HoldsOf R p.left p.right (get_or sides k d).row) →
         All (IsSide R n (system ++ p ∷ [])) news
-    settled_each hold k d l = settled_at news h k d (omega (arith, l, h.many)) (hold k d (omega (arith, l, h.many)))
+    settled_each hold k d l =
+        let lk : k < length sides = omega (arith, l, h.many) in
+        settled_at sides news (omega arith) (λ j e m. refl) h k d lk (hold k d lk)
 
-    pub settled_rows : rows_of news ≡ rows_of sides
+    settled_rows : rows_of news ≡ rows_of sides
     settled_rows = same_lists (rows_of news) (rows_of sides) (length-rows news ∙ h.many ∙ sym (length-rows sides))
         (λ k d l.
         let lk : k < length news = omega (arith, l, length-rows news) in
         let ls : k < length sides = omega (arith, lk, h.many) in
-        row_read news k blank d lk ∙ row_at news h k blank ls ∙ sym (row_read sides k blank d ls))
+        row_read news k blank d lk ∙ row_at sides news (omega arith) (λ j e m. refl) h k blank ls
+        ∙ sym (row_read sides k blank d ls))
       where
         blank : Side V
         blank = record { row = []; words = record { support = 0; types = 0; cover = 0 }; slots = []; places = [] }
+
+    pub settled_found : (order : List ℕ) → found_rows news [] order ≡ found_rows sides [] order
+    settled_found order = found_alike news sides order settled_rows
+
+    pub settled_numbers : (order : List ℕ) → AreNumbers (length sides) order → AreNumbers (length news) order
+    settled_numbers order = subst (λ m. AreNumbers m order) (sym h.many)
 
   -- where some are dropped, and new ones found
-  module _ (fresh news : List (Side V)) (order : List ℕ) (found : AreFound R n system p sides fresh order)
-      (h : AreArranged sides additions fresh order news) where
-    -- a number is that of an old row or of a new one
-    old_pool : (k : ℕ) (d : Side V) → k < length sides → get_or (h.between ++ fresh) k d ≡ get_or h.between k d
-    old_pool k d l = get_or_append_left h.between fresh d k (omega (arith, l, h.settled.many))
+  module _ (fresh news : List (Side V)) (order numbers : List ℕ) (found : AreFound R n system p sides fresh order)
+      (h : AreArranged sides additions fresh order news numbers) where
+    longer : length sides ≤ length (sides ++ fresh)
+    longer = omega (arith, length-append sides fresh)
 
-    new_pool : (k : ℕ) (d : Side V) → length sides ≤ k →
-        get_or (h.between ++ fresh) k d ≡ get_or fresh (k - length sides) d
-    new_pool k d le = get_or-append_right h.between fresh k d (omega (arith, le, h.settled.many))
-        ∙ ap (λ m. get_or fresh (k - m) d) h.settled.many
+    front : (k : ℕ) (d : Side V) → k < length sides → get_or (sides ++ fresh) k d ≡ get_or sides k d
+    front k d l = get_or_append_left sides fresh d k l
+
+    -- a fresh row is as it was
+    behind : (k : ℕ) (d : Side V) → length sides ≤ k → k < length (sides ++ fresh) →
+        get_or h.between k d ≡ get_or (sides ++ fresh) k d
+    behind k d le l = h.settled.rest k d (omega (arith, le, added.many)) l
+
+    -- what the number of an index has now
+    moved : (i k : ℕ) (d : Side V) → i < length order → get_or numbers i 0 ≡ k →
+        get_or news k d ≡ get_or h.between (get_or order i 0) d
+    moved i k d l e = ap (λ j. get_or news j d) (sym e) ∙ h.moved.same i d l
 
     pub arranged_each : All (IsSide R n (system ++ p ∷ [])) news
-    arranged_each i d l =
-        let li : i < length order = omega (arith, l, h.many) in
-        let lk : get_or order i 0 < length (sides ++ fresh) = found.within i 0 li in
-        subst (IsSide R n (system ++ p ∷ [])) (sym (h.picked i d li)) (⊎_elim
-        (λ old. subst (IsSide R n (system ++ p ∷ [])) (sym (old_pool (get_or order i 0) d old))
-        (settled_at h.between h.settled (get_or order i 0) d old (found.stay i 0 li d old)))
-        (λ new. subst (IsSide R n (system ++ p ∷ [])) (sym (new_pool (get_or order i 0) d new))
-        (found.carried (get_or order i 0 - length sides) d (omega (arith, lk, new, length-append sides fresh))))
-        (cases_lt (get_or order i 0) (length sides)))
+    arranged_each k d l =
+        let c = h.moved.places.all k l in
+        let li : c.0 < length order = omega (arith, c.1, h.moved.many) in
+        let number = get_or order c.0 0 in
+        let lk : number < length (sides ++ fresh) = found.within c.0 0 li in
+        subst (IsSide R n (system ++ p ∷ []))
+        (sym (moved c.0 k d li (get_or_default numbers c.0 0 k c.1 ∙ c.2))) (⊎_elim
+        (λ old. settled_at (sides ++ fresh) h.between longer front h.settled number d old (found.stay c.0 0 li d old))
+        (λ new. subst (IsSide R n (system ++ p ∷ []))
+        (sym (behind number d new lk ∙ get_or-append_right sides fresh number d new))
+        (found.carried (number - length sides) d (omega (arith, lk, new, length-append sides fresh))))
+        (cases_lt number (length sides)))
 
-    pub arranged_rows : rows_of news ≡ found_rows sides fresh order
-    arranged_rows = same_lists (rows_of news) (found_rows sides fresh order)
-        (length-rows news ∙ h.many ∙ sym (length-found sides fresh order)) (λ i d l.
-        let ln : i < length news = omega (arith, l, length-rows news) in
-        let li : i < length order = omega (arith, ln, h.many) in
-        let lk : get_or order i 0 < length (sides ++ fresh) = found.within i 0 li in
-        row_read news i blank d ln ∙ ap (λ s. s.row) (h.picked i blank li) ∙ same (get_or order i 0)
-        ∙ sym (number_row sides fresh (get_or order i 0) blank lk) ∙ sym (found_read sides fresh order i d li))
+    pub arranged_found : found_rows news [] numbers ≡ found_rows sides fresh order
+    arranged_found = same_lists (found_rows news [] numbers) (found_rows sides fresh order)
+        (length-found news [] numbers ∙ h.moved.many ∙ sym (length-found sides fresh order)) (λ i d l.
+        let ln : i < length numbers = omega (arith, l, length-found news [] numbers) in
+        let li : i < length order = omega (arith, ln, h.moved.many) in
+        let number = get_or order i 0 in
+        let lk : number < length (sides ++ fresh) = found.within i 0 li in
+        old_read news numbers i blank d ln (h.moved.places.within i 0 ln)
+        ∙ ap (λ s. s.row) (moved i (get_or numbers i 0) blank li refl) ∙ same number lk
+        ∙ sym (number_row sides fresh number blank lk) ∙ sym (found_read sides fresh order i d li))
       where
         blank : Side V
         blank = record { row = []; words = record { support = 0; types = 0; cover = 0 }; slots = []; places = [] }
 
-        same : (k : ℕ) → (get_or (h.between ++ fresh) k blank).row ≡ (get_or (sides ++ fresh) k blank).row
-        same k = ⊎_elim
-            (λ old. ap (λ s. s.row) (old_pool k blank old) ∙ row_at h.between h.settled k blank old
-            ∙ ap (λ s. s.row) (sym (get_or_append_left sides fresh blank k old)))
-            (λ new. ap (λ s. s.row) (new_pool k blank new)
-            ∙ ap (λ s. s.row) (sym (get_or-append_right sides fresh k blank new)))
+        same : (k : ℕ) → k < length (sides ++ fresh) → (get_or h.between k blank).row ≡ (get_or (sides ++ fresh) k blank).row
+        same k l = ⊎_elim
+            (λ old. row_at (sides ++ fresh) h.between longer front h.settled k blank old
+            ∙ ap (λ s. s.row) (sym (front k blank old)))
+            (λ new. ap (λ s. s.row) (behind k blank new l))
             (cases_lt k (length sides))

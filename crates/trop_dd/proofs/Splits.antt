@@ -1,6 +1,6 @@
 -- One more row is split off.
-use Rattle.std.proofs.Common.{◌≡◌, ◌≢◌, ◌<◌, ◌≤◌, ◌+◌, ℕ, List, [], ◌∷◌, ◌++◌, length, ⊎_elim, sym, ap, ◌∙◌, refl, arith, subst, get_or}
-use Rattle.std.specs.Prelude.{All, Any, AllPairs, Contains}
+use Rattle.std.proofs.Common.{◌≡◌, ◌<◌, ◌≤◌, ◌+◌, ℕ, List, [], ◌∷◌, ◌++◌, length, ⊎_elim, sym, ap, ◌∙◌, refl, arith, subst, get_or}
+use Rattle.std.specs.Prelude.{All, Any, Contains}
 use Rattle.std.proofs.lemmas.Bool.{cases_lt}
 use Rattle.std.proofs.lemmas.List.{get_or_default, length-append, get_or_append_left, get_or_push, map-append}
 use Rattle.std.proofs.lemmas.List.Elements.{All-nil, All-push, All-weaker, Contains-push, Contains-append_left}
@@ -14,7 +14,7 @@ use Rattle.trop_pruning.specs.Kept.{IsAddition}
 use Rattle.trop_pairs.specs.declared.keeping.Addition.{Addition}
 use Rattle.trop_dd.specs.declared.splitting.Kept.{Kept}
 use Rattle.trop_dd.specs.declared.splitting.Dropped.{Dropped}
-use Rattle.trop_dd.specs.Carried.{AreCarried}
+use Rattle.trop_dd.specs.Carried.{AreBeside}
 use Rattle.trop_dd.specs.Parts.{IsKept, IsDropped, IsSplit, AreAdditions}
 
 Any-longer : {X : Type 0} (P : X → Type 0) (xs : List X) (y : X) → Any P xs → Any P (xs ++ y ∷ [])
@@ -155,12 +155,12 @@ module _ {V : Type 0} (R : Semiring V) (n : ℕ) (system : List (Inequality V)) 
 
 -- one more row with what is carried beside it
 pub carried_push : {V : Type 0} (R : Semiring V) (n : ℕ) (system : List (Inequality V)) (rows : List (List V))
-    (sides : List (Side V)) (side : Side V) → AreCarried R n system rows sides → IsSide R n system side →
-    AreCarried R n system (rows ++ side.row ∷ []) (sides ++ side ∷ [])
+    (sides : List (Side V)) (side : Side V) → AreBeside R n system rows sides → IsSide R n system side →
+    AreBeside R n system (rows ++ side.row ∷ []) (sides ++ side ∷ [])
 carried_push R n system rows sides side h s = record {
   each = All-push (IsSide R n system) sides side h.each s;
   same = map-append (λ a. a.row) sides (side ∷ []) ∙ ap (λ w. w ++ side.row ∷ []) h.same;
 }
 
-pub carried_none : {V : Type 0} (R : Semiring V) (n : ℕ) (system : List (Inequality V)) → AreCarried R n system [] []
+pub carried_none : {V : Type 0} (R : Semiring V) (n : ℕ) (system : List (Inequality V)) → AreBeside R n system [] []
 carried_none R n system = record { each = All-nil (IsSide R n system); same = refl }

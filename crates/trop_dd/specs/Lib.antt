@@ -1,4 +1,5 @@
 pub mod Description
+pub mod Numbers
 pub mod Carried
 pub mod Parts
 pub mod Steps

@@ -32,6 +32,13 @@ pub fn copied_sides<S: Scalar>(
     Ok(copies)
 }
 
+// The same numbers.
+pub fn copied_numbers(alloc: Global, numbers: &[usize]) -> Result<Vec<usize>, AllocError>
+    ensures { IfOk result (λ copies. copies.items ≡ numbers.now) }
+{
+    Vec::from_slice(alloc, numbers)
+}
+
 // The same inequalities.
 pub fn copied_system<S: Scalar>(
     alloc: Global,

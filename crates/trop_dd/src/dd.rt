@@ -8,14 +8,12 @@ ghost use Rattle.trop_criterion.specs.SizeBound.{HaveSpread};
 ghost use Rattle.trop_dd.specs.Description.{Description, Describes, CountsNew, IsRefusedBy, AreLaterWithin, IsStoppedBehind};
 ghost use Rattle.trop_dd.specs.Units.{IsUnitRow};
 
-use crate::copying::{copied_rows, copied_sides, copied_system};
+use crate::conversion::Conversion;
+use crate::copying::copied_rows;
 use crate::error::DdErr;
-use crate::narrowing::narrow;
-use crate::units::{unit_rows, unit_sides};
 use std::alloc::{AllocError, Global};
 use std::marker::Model;
 use trop_hyper::Looks;
-use trop_pairs::Carried;
 use trop_row::{Gens, Ineq, System};
 use trop_scalar::Scalar;
 
@@ -26,24 +24,21 @@ type NoMemory = AllocError;
 /// `n` of coordinates, from 1 to 64, the list `system` of the inequalities pushed so far and the list `rows`.
 #[derive(Drop)]
 pub struct Dd<S: Scalar> {
-    system: System<S>,
+    conversion: Conversion<S>,
     rows: Gens<S>,
-    sides: Vec<Carried<S>>,
 }
 
 impl<S: Scalar> Model for Dd<S> {
-    ghost use Rattle.std.specs.Prelude.{◌≡◌, ◌≤◌, ◌^◌, All};
-    ghost use Rattle.trop_theory.specs.Inequalities.{IsIn, system_size};
-    ghost use Rattle.trop_dd.specs.Description.{Description, Describes};
+    ghost use Rattle.std.specs.Prelude.{◌≡◌};
+    ghost use Rattle.trop_dd.specs.Description.{Description};
     ghost use Rattle.trop_dd.specs.Sound.{IsSound};
-    ghost use Rattle.trop_dd.specs.Carried.{AreCarried};
 
     ghost Value = { Description S };
 
-    ghost view = { λ a. record { n = a.system.n; system = a.system.inequalities; rows = a.rows.rows } };
+    ghost view = { λ a. a.conversion };
 
-    ghost invariant = { λ a. (a.rows.n ≡ a.system.n) × IsSound S.ring a.system.n a.system.inequalities a.rows.rows
-        × AreCarried S.ring a.system.n a.system.inequalities a.rows.rows a.sides.items };
+    ghost invariant = { λ a. (a.rows.n ≡ a.conversion.n) × (a.rows.rows ≡ a.conversion.rows)
+        × IsSound S.ring a.conversion.n a.conversion.system a.conversion.rows };
 }
 
 impl<S: Scalar> Dd<S> {
@@ -57,13 +52,9 @@ impl<S: Scalar> Dd<S> {
         ensures units { IfOk result (λ dd. All (IsUnitRow S.ring n) dd.rows) }
         ensures count { IfOk result (λ dd. length dd.rows ≡ n) }
     {
-        let rows = unit_rows(alloc, n)?;
-        let sides = unit_sides(alloc, n, rows.as_slice())?;
-        Ok(Dd {
-            system: System::new(alloc, n),
-            rows: Gens::from_rows(n, rows),
-            sides,
-        })
+        let conversion = Conversion::new(alloc, n)?;
+        let rows = conversion.rows(alloc)?;
+        Ok(Dd { conversion, rows })
     }
 
     /// Adds an inequality. `Limit(k)` comes exactly where this is the k-th inequality and the first k have more than
@@ -86,10 +77,8 @@ impl<S: Scalar> Dd<S> {
         ensures counts { OnOk result (CountsNew S.ring self.old.rows self.new.rows looks.old looks.new) }
         ensures kept { looks.old ≤ looks.new }
     {
-        let n = self.system.n();
-        self.system.reserve(1)?;
-        let found = narrow(alloc, &self.system, &ineq, &mut self.sides, looks)?;
-        self.system.push(ineq)?;
+        let n = self.rows.n();
+        let found = self.conversion.narrowed(alloc, ineq, true, looks)?;
         match found {
             None => Ok(()),
             Some(rows) => {
@@ -151,14 +140,11 @@ impl<S: Scalar> Dd<S> {
     pub fn copy(&self, alloc: Global) -> Result<Dd<S>, NoMemory>
         ensures same { IfOk result (λ dd. dd ≡ self.now) }
     {
-        let n = self.system.n();
-        let system = copied_system(alloc, n, self.system.as_slice())?;
+        let conversion = self.conversion.copy(alloc)?;
         let rows = copied_rows(alloc, self.rows.as_slice())?;
-        let sides = copied_sides(alloc, self.sides.as_slice())?;
         Ok(Dd {
-            system,
-            rows: Gens::from_rows(n, rows),
-            sides,
+            conversion,
+            rows: Gens::from_rows(self.rows.n(), rows),
         })
     }
 
@@ -176,6 +162,6 @@ impl<S: Scalar> Dd<S> {
         ensures inequalities { result.now.inequalities ≡ self.now.system }
         ensures width { result.now.n ≡ self.now.n }
     {
-        &self.system
+        self.conversion.system()
     }
 }

@@ -2,6 +2,7 @@
 //! after another, by the extremality criterion. Everything is generic over the semiring.
 #![tactic(auto)]
 
+mod conversion;
 mod convert;
 mod copying;
 mod dd;
@@ -9,11 +10,14 @@ mod error;
 mod found;
 mod laws;
 mod mixing;
+mod moving;
 mod narrowing;
 mod settling;
 mod splitting;
+mod starting;
 mod units;
 
+pub use conversion::Conversion;
 pub use convert::extreme_rows;
 pub use dd::Dd;
 pub use error::DdErr;

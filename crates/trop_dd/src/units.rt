@@ -1,8 +1,9 @@
 // The unit rows, with which every conversion begins.
-ghost use Rattle.std.specs.Prelude.{◌≡◌, ◌-◌, ◌<◌, ◌≤◌, ℕ, [], List, All, IfOk, length, slice_set, slice_index_or};
+ghost use Rattle.std.specs.Prelude.{◌≡◌, ◌-◌, ◌<◌, ◌≤◌, ℕ, [], List, All, IfOk, length, slice_index, slice_set, slice_index_or};
 ghost use Rattle.trop_theory.specs.Vectors.{AreWide, bottom};
 ghost use Rattle.trop_pruning.specs.Judged.{IsSide};
-ghost use Rattle.trop_dd.specs.Carried.{AreCarried};
+ghost use Rattle.trop_dd.specs.Carried.{AreBeside};
+ghost use Rattle.trop_dd.specs.Numbers.{AreNumbers};
 ghost use Rattle.trop_dd.specs.Description.{Describes};
 ghost use Rattle.trop_dd.specs.Units.{IsUnitRow};
 
@@ -61,11 +62,24 @@ pub fn unit_sides<S: Scalar>(
     requires wide { AreWide n rows.now }
     requires order { (k : ℕ) (d : List S) → k < n →
         slice_index_or rows.now k d ≡ slice_set (bottom S.ring n) (n - 1 - k) S.ring.one }
-    ensures { IfOk result (λ sides. AreCarried S.ring n [] rows.now sides.items) }
+    ensures { IfOk result (λ sides. AreBeside S.ring n [] rows.now sides.items) }
 {
     let mut sides = Vec::with_capacity(alloc, rows.len())?;
     for k in 0..n {
         sides.push(unit_side(alloc, &rows[k as usize], n - 1 - k)?)?;
     }
     Ok(sides)
+}
+
+// The numbers of so many rows that stand in their order.
+pub fn unit_numbers(alloc: Global, many: usize) -> Result<Vec<usize>, AllocError>
+    ensures numbers { IfOk result (λ order. AreNumbers many order.items) }
+    ensures count { IfOk result (λ order. length order.items ≡ many) }
+    ensures same { IfOk result (λ order. (k : ℕ) → k < many → slice_index order.items k ≡ k) }
+{
+    let mut order = Vec::with_capacity(alloc, many)?;
+    for k in 0..many {
+        order.push(k)?;
+    }
+    Ok(order)
 }

@@ -21,4 +21,4 @@ loop-k-preserved g c =
 
 pub returns-clause-ok : goal.returns-clause-ok
 returns-clause-ok g c = put_end g.S.Scalar.ring c.args.sides.now.items c.loop-k.sides.items c.args.additions.now
-    c.loop-k.k (omega (arith, c.loop-k-test.false, c.requires)) c.loop-k.invariant
+    c.loop-k.k (omega (arith, c.loop-k-test.false)) (omega arith) c.loop-k.invariant

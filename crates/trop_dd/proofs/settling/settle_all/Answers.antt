@@ -1,5 +1,5 @@
-use Rattle.std.proofs.Common.{◌≡◌, ◌+◌, refl, sym, ap, ◌∙◌, subst, true≢false, arith}
-use Rattle.trop_dd.proofs.Settled.{IsSettledTo, settled_edge, settled_loose}
+use Rattle.std.proofs.Common.{◌+◌, refl, sym, ◌∙◌, subst, true≢false, arith}
+use Rattle.trop_dd.proofs.Settled.{IsSettledTo, settled_edge, settled_loose, settled_all}
 use Rattle.trop_dd.proofs.settling.settle_all.Goals as goal
 use Rattle.trop_dd.proofs.settling.settle_all.Goals.{then-gives_edge, else-gives_edge}
 
@@ -21,3 +21,7 @@ loop-k-preserved g c = elim c.if-gives_edge.branch [
       c.index-additions-k.is c.loop-k.invariant
       (λ has. true≢false (sym (c.gives_edge.ensures.1 has) ∙ w.if-gives_edge.false)))
 ]
+
+pub returns : goal.returns
+returns g c = settled_all c.args.additions.now c.args.sides.now.items c.loop-k.sides.items c.loop-k.k
+    (omega (arith, c.loop-k-test.false)) (omega arith) c.loop-k.invariant

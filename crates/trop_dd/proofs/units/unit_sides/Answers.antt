@@ -2,12 +2,12 @@ use Rattle.std.proofs.Common.{◌≡◌, ◌+◌, ◌-◌, [], ◌∷◌, ◌++�
 use Rattle.std.proofs.lemmas.List.{take_all, take_more}
 use Rattle.trop_theory.specs.Vectors.{bottom}
 use Rattle.trop_pruning.specs.Judged.{IsSide}
-use Rattle.trop_dd.specs.Carried.{AreCarried}
+use Rattle.trop_dd.specs.Carried.{AreBeside}
 use Rattle.trop_dd.proofs.Splits.{carried_push, carried_none}
 use Rattle.trop_dd.proofs.units.unit_sides.Goals as goal
 
 pub loop-k-init : goal.loop-k-init
-loop-k-init g c = subst (AreCarried g.S.Scalar.ring c.args.n [] []) (sym c.in_ok-sides.ensures.items)
+loop-k-init g c = subst (AreBeside g.S.Scalar.ring c.args.n [] []) (sym c.in_ok-sides.ensures.items)
     (carried_none g.S.Scalar.ring c.args.n [])
 
 pub unit_side-requires : goal.unit_side-requires
@@ -29,9 +29,9 @@ loop-k-preserved g c =
     let side = subst (λ m. IsSide g.S.Scalar.ring m [] c.in_ok-unit_side.field-0)
     (ap length at ∙ c.requires.wide c.loop-k.k c.index-rows-k.result (omega arith)) c.in_ok-unit_side.ensures.side
     in
-    subst (AreCarried g.S.Scalar.ring c.args.n [] (take (c.loop-k.k + 1) c.args.rows.now))
+    subst (AreBeside g.S.Scalar.ring c.args.n [] (take (c.loop-k.k + 1) c.args.rows.now))
     (sym c.in_ok-push.ensures.items)
-    (subst (λ rows. AreCarried g.S.Scalar.ring c.args.n [] rows
+    (subst (λ rows. AreBeside g.S.Scalar.ring c.args.n [] rows
     (c.loop-k.sides.items ++ c.in_ok-unit_side.field-0 ∷ []))
     (ap (λ x. take c.loop-k.k c.args.rows.now ++ x ∷ []) row
     ∙ sym (take_more c.args.rows.now c.loop-k.k c.index-rows-k.result (omega arith)))
@@ -41,5 +41,5 @@ loop-k-preserved g c =
 pub returns : goal.returns
 returns g c =
     let all : c.loop-k.k ≡ length c.args.rows.now = omega arith in
-    subst (λ rows. AreCarried g.S.Scalar.ring c.args.n [] rows c.loop-k.sides.items)
+    subst (λ rows. AreBeside g.S.Scalar.ring c.args.n [] rows c.loop-k.sides.items)
     (take_all c.loop-k.k c.args.rows.now (omega (arith, all))) c.loop-k.invariant

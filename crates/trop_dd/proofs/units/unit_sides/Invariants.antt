@@ -1,6 +1,6 @@
 use Rattle.std.proofs.Common.{take, []}
-use Rattle.trop_dd.specs.Carried.{AreCarried}
+use Rattle.trop_dd.specs.Carried.{AreBeside}
 use Rattle.trop_dd.proofs.units.unit_sides.Given as goal
 
 abbrev pub invariant-loop-k : goal.invariant-loop-k
-invariant-loop-k g l = AreCarried g.S.Scalar.ring l.n [] (take l.k l.rows) l.sides.items
+invariant-loop-k g l = AreBeside g.S.Scalar.ring l.n [] (take l.k l.rows) l.sides.items

@@ -1,8 +1,11 @@
-use Rattle.std.proofs.Common.{sym, subst}
-use Rattle.std.specs.Prelude.{All}
-use Rattle.trop_dd.specs.Units.{IsUnitRow}
+use Rattle.trop_dd.proofs.Pushes.{first_sound}
 use Rattle.trop_dd.proofs.dd.Dd.new.Goals as goal
 
-pub returns-clause-units : goal.returns-clause-units
-returns-clause-units g c = subst (All (IsUnitRow g.S.Scalar.ring c.args.n))
-    (sym c.from_rows.ensures.rows) c.in_ok-rows.ensures.units
+pub invariant_of-result : goal.invariant_of-result
+invariant_of-result g c = (
+  c.in_ok-rows.ensures.width,
+  c.in_ok-rows.ensures.rows,
+  first_sound g.S.Scalar.ring c.args.n c.in_ok-conversion.conversion.n c.in_ok-conversion.conversion.system
+      c.in_ok-conversion.conversion.rows c.requires.at_least c.requires.at_most c.in_ok-conversion.ensures.width
+      c.in_ok-conversion.ensures.system c.in_ok-conversion.ensures.described,
+)
