@@ -11,7 +11,7 @@ ghost use Rattle.tplib_cones.specs.Ext.{ext_meaning};
 
 use std::alloc::Global;
 use tplib_reply::{Refusal, Reply, Stop};
-use trop_dd::{Dd, DdErr};
+use trop_dd::{Conversion, DdErr};
 use trop_files::{AnyIneqLines, IneqLines, Spelling, open_ineqs, print_gens};
 use trop_hyper::Looks;
 
@@ -39,9 +39,11 @@ fn converted<S: Spelling>(alloc: Global, lines: &mut IneqLines<'_, S>) -> Result
     ensures refused { IfErr result (IsRefused ext_meaning lines.old.bytes) }
 {
     let n = lines.names().len() + 1;
-    let mut dd = Dd::new(alloc, n)?;
-    push_lines(alloc, lines, &mut dd)?;
-    let text = print_gens(alloc, lines.names(), dd.rows())?;
+    let mut conversion = Conversion::new(alloc, n)?;
+    push_lines(alloc, lines, &mut conversion)?;
+    let rows = conversion.rows(alloc)?;
+    drop(conversion);
+    let text = print_gens(alloc, lines.names(), &rows)?;
     Ok(Reply { yes: true, text })
 }
 
@@ -49,22 +51,22 @@ fn converted<S: Spelling>(alloc: Global, lines: &mut IneqLines<'_, S>) -> Result
 fn push_lines<S: Spelling>(
     alloc: Global,
     lines: &mut IneqLines<'_, S>,
-    dd: &mut Dd<S>,
+    conversion: &mut Conversion<S>,
 ) -> Result<(), Refusal>
     requires first { lines.old.given ≡ [] }
-    requires empty { dd.old.system ≡ [] }
-    requires described { Describes S.ring dd.old.n [] dd.old.rows }
-    requires width { dd.old.n ≡ length lines.old.names + 1 }
+    requires empty { conversion.old.system ≡ [] }
+    requires described { Describes S.ring conversion.old.n [] conversion.old.rows }
+    requires width { conversion.old.n ≡ length lines.old.names + 1 }
     ensures spelled { OnOk result (SpellsInequalities
         (pieces_of lines.old.bytes) record {
           names = lines.old.names;
           inequalities =
-              S.three.over Systems dd.new.system;
+              S.three.over Systems conversion.new.system;
         }) }
-    ensures within { OnOk result ((j : ℕ) → j ≤ length dd.new.system →
-        IsOverLimit S.ring (Solves S.ring dd.old.n (take j dd.new.system)) → ⊥) }
+    ensures within { OnOk result ((j : ℕ) → j ≤ length conversion.new.system →
+        IsOverLimit S.ring (Solves S.ring conversion.old.n (take j conversion.new.system)) → ⊥) }
     ensures refused { IfErr result (IsRefused ext_meaning lines.old.bytes) }
-    ensures width { OnOk result (dd.new.n ≡ dd.old.n) }
+    ensures width { OnOk result (conversion.new.n ≡ conversion.old.n) }
     ensures names { OnOk result (lines.new.names ≡ lines.old.names) }
 {
     let mut looks = Looks::new();
@@ -74,7 +76,7 @@ fn push_lines<S: Spelling>(
             Ok(None) => return Ok(()),
             Err(e) => return Err(Refusal::from(e)),
         };
-        match dd.push(alloc, ineq, &mut looks) {
+        match conversion.push(alloc, ineq, &mut looks) {
             Ok(()) => {}
             Err(DdErr::Limit(count)) => return Err(stopped(alloc, lines, count)),
             Err(DdErr::NoMemory) => return Err(Refusal::NoMemory),

@@ -13,15 +13,15 @@ use Rattle.tplib_cones.proofs.ext.converted.Goals as goal
 
 pub print_gens-requires-clause-normal : goal.print_gens-requires-clause-normal
 print_gens-requires-clause-normal g c = subst (All (IsNormal g.S.Scalar.ring))
-    (sym c.rows.ensures.rows) c.rows.ensures.described.canonical.normal
+    (sym c.in_ok-rows.ensures.rows) c.rows.ensures.described.canonical.normal
 
 pub returns-clause-reply : goal.returns-clause-reply
 returns-clause-reply g c =
     let R = g.S.Scalar.ring in
     let names = c.args.lines.now.names in
     let pushed = c.in_ok-push_lines.ensures in
-    let dd = c.push_lines.new.dd in
-    let wide : dd.n ≡ length names + 1 = pushed.width ∙ c.in_ok-dd.ensures.width
+    let dd = c.push_lines.new.conversion in
+    let wide : dd.n ≡ length names + 1 = pushed.width ∙ c.in_ok-conversion.ensures.width
     ∙ ap (λ n. n + 1) (c.len-n.ensures.count ∙ ap length c.names.ensures.names) in
     let described = subst (λ n. Describes R n dd.system dd.rows) wide c.rows.ensures.described in
     answered (one_of g.S.Spelling.three g.S.Spelling.KIND R g.S.Scalar.numbering g.met.S.Spelling.three_laws)
@@ -31,5 +31,5 @@ returns-clause-reply g c =
     (Solves R (length names + 1) dd.system) dd.rows c.in_ok-text.text.items (length names + 1) refl
     (λ k d l. (described.canonical.extreme k d l).member.wide) described.canonical described.generates
     (c.in_ok-text.ensures.text ∙ ap (λ ns. printed_gens g.S.Spelling.KIND g.S.Scalar.numbering ns
-    c.rows.result.now.rows) (c.names-2.ensures.names ∙ pushed.names)
-    ∙ ap (printed_gens g.S.Spelling.KIND g.S.Scalar.numbering names) c.rows.ensures.rows))
+    c.in_ok-rows.rows.rows) (c.names-2.ensures.names ∙ pushed.names)
+    ∙ ap (printed_gens g.S.Spelling.KIND g.S.Scalar.numbering names) c.in_ok-rows.ensures.rows))

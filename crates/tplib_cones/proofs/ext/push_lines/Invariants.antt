@@ -6,9 +6,9 @@ abbrev pub invariant-lines : goal.invariant-lines
 invariant-lines g l = record {
   bytes : l.lines.bytes ≡ l.initial.lines.bytes;
   names : l.lines.names ≡ l.initial.lines.names;
-  system : l.dd.system ≡ l.lines.given;
-  width : l.dd.n ≡ l.initial.dd.n;
-  within : IsWithin g.S.Scalar.ring l.initial.dd.n l.dd.system;
+  system : l.conversion.system ≡ l.lines.given;
+  width : l.conversion.n ≡ l.initial.conversion.n;
+  within : IsWithin g.S.Scalar.ring l.initial.conversion.n l.conversion.system;
 }
 
 abbrev pub decreases-lines : goal.decreases-lines
