@@ -2,15 +2,19 @@
 use Rattle.std.proofs.Common.{◌≡◌, ◌≢◌, ◌<◌, ◌≤◌, ◌+◌, ◌^◌, ◌++◌, [], ◌∷◌, ℕ, List, length, sym, ap, ◌∙◌, arith, subst, get_or}
 use Rattle.std.specs.Prelude.{All, ◌↔◌}
 use Rattle.std.proofs.lemmas.List.{get_or_default}
-use Rattle.trop_theory.specs.Semiring.{Semiring, SemiringLaws}
+use Rattle.trop_theory.specs.Semiring.{Semiring, SemiringLaws, Le}
 use Rattle.trop_theory.specs.Vectors.{dot, row_size}
-use Rattle.trop_theory.specs.Inequalities.{Inequality, IsIn, IsTrueAt}
+use Rattle.trop_theory.specs.Inequalities.{Inequality, IsIn, IsTrueAt, inequality_size}
 use Rattle.trop_theory.proofs.Truth.{HoldsOf, truth}
 use Rattle.trop_criterion.specs.Hypergraphs.{Has}
 use Rattle.trop_criterion.specs.Tangents.{Attains}
 use Rattle.trop_pruning.specs.Slots.{Slot, IsSlot}
 use Rattle.trop_pruning.specs.Judged.{Side, IsSide}
 use Rattle.trop_pruning.proofs.NewSlots.{dropped_finite}
+use Rattle.trop_pairs.specs.declared.terms.Term.{Term}
+use Rattle.trop_pairs.specs.declared.reading.Sums.{Sums}
+use Rattle.trop_pairs.specs.Sums.{AreTerms, HasTerms, Fits, AreSums}
+use Rattle.trop_pairs.proofs.Summing.{terms_fit}
 use Rattle.trop_dd.specs.declared.splitting.Kept.{Kept}
 use Rattle.trop_dd.specs.declared.splitting.Dropped.{Dropped}
 use Rattle.trop_dd.specs.Carried.{IsNext}
@@ -48,6 +52,31 @@ module _ {V : Type 0} {R : Semiring V} (laws : SemiringLaws R) (n : ℕ) (system
 
   here : (d : Side V) → side ≡ get_or sides k d
   here d = read ∙ get_or_default sides k side d l
+
+  -- the row as it was read, for the terms of the inequality
+  module _ (x : List V) (is_row : x ≡ side.row) where
+    fits : (a : List V) (terms : List (Term V)) → AreTerms R a terms → length a ≡ length side.row →
+        row_size R a ≤ inequality_size R p → All (Fits R x) terms
+    fits a terms are wide small = subst (λ y. All (Fits R y) terms) (sym is_row)
+        (terms_fit R a side.row terms are wide (omega (arith, facts.size, next.last_size, small)))
+
+    pub left_fits : (left right : List (Term V)) → HasTerms R p left right → All (Fits R x) left
+    left_fits left right h = fits p.left left h.left facts.inside.left (omega arith)
+
+    pub right_fits : (left right : List (Term V)) → HasTerms R p left right → All (Fits R x) right
+    right_fits left right h = fits p.right right h.right facts.inside.right (omega arith)
+
+    module _ (sums : Sums V) (are : IsIn (length x) p → AreSums R p x sums) where
+      pub sums_here : AreSums R p side.row sums
+      sums_here = subst (λ y. IsIn (length y) p → AreSums R p y sums) is_row are facts.inside
+
+      pub holds_here : Le R sums.left.value sums.right.value → HoldsOf R p.left p.right side.row
+      holds_here h = subst (λ a. Le R a (dot R p.right side.row)) sums_here.left.value
+          (subst (Le R sums.left.value) sums_here.right.value h)
+
+      pub fails_here : (Le R sums.left.value sums.right.value → ⊥) → HoldsOf R p.left p.right side.row → ⊥
+      fails_here f h = f (subst (λ a. Le R a sums.right.value) (sym sums_here.left.value)
+          (subst (Le R (dot R p.left side.row)) (sym sums_here.right.value) h))
 
   pub true_here : HoldsOf R p.left p.right side.row → IsTrueAt R p side.row
   true_here h = (truth laws p.left p.right side.row facts.inside.left facts.inside.right).0 h

@@ -104,7 +104,7 @@ fn carried<S: Scalar>(
         head: slot.head,
     };
     carry(
-        alloc, system, ineq, v, first, w, second, row, types, cover, slot,
+        alloc, system, ineq, v, first, w, second, row, types, cover, slot, looks,
     )
 }
 
@@ -198,7 +198,7 @@ fn judge_pair<S: Scalar>(
     let (v, w) = (&sides[kept.place], &sides[dropped.place]);
     let (left, right) = (dropped.sum, kept.sum());
     let slot = new_slot(kept.slot, left, dropped.reached);
-    if fades(system, ineq, v, left, w, right, slot) {
+    if fades(system, ineq, v, left, w, right, slot, looks) {
         return Ok(());
     }
     let judged = judge(

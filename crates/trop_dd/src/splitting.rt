@@ -5,12 +5,15 @@ ghost use Rattle.trop_theory.specs.Inequalities.{IsTrueAt};
 ghost use Rattle.trop_criterion.specs.Hypergraphs.{Has};
 ghost use Rattle.trop_pruning.specs.Slots.{IsSlot};
 ghost use Rattle.trop_pruning.specs.Judged.{IsSide};
+ghost use Rattle.trop_pairs.specs.Sums.{HasTerms};
 ghost use Rattle.trop_dd.specs.Carried.{IsNext};
 ghost use Rattle.trop_dd.specs.Parts.{IsSplit, AreAdditions};
 
 use std::alloc::{AllocError, Global};
 use trop_hyper::{Hyper, Looks, Mask};
-use trop_pairs::{Addition, Carried, RowSlot, RowWords, addition_of, is_zero, reaching, slot_of};
+use trop_pairs::{
+    Addition, Carried, RowSlot, RowWords, Sums, Terms, addition_of, is_zero, slot_of, sums_at,
+};
 use trop_row::{Ineq, System};
 use trop_scalar::Scalar;
 
@@ -81,8 +84,9 @@ pub fn split_sides<S: Scalar>(
         kept: Vec::with_capacity(alloc, sides.len())?,
         dropped: Vec::new(alloc),
     };
+    let terms = Terms::of(alloc, ineq)?;
     for place in 0..sides.len() {
-        split_side(room, system, ineq, sides, place, &mut split, looks)?;
+        split_side(room, system, ineq, &terms, sides, place, &mut split, looks)?;
     }
     Ok(split)
 }
@@ -105,12 +109,14 @@ fn split_side<S: Scalar>(
     room: &mut Hyper,
     system: &System<S>,
     ineq: &Ineq<S>,
+    terms: &Terms<S>,
     sides: &[Carried<S>],
     place: usize,
     split: &mut Split<S>,
     looks: &mut Looks,
 ) -> Result<(), AllocError>
     requires next { IsNext S.ring system.now.n system.now.inequalities ineq.now sides.now }
+    requires terms { HasTerms S.ring ineq.now terms.now.left.items terms.now.right.items }
     requires within { place < length sides.now }
     requires split { IsSplit S.ring ineq.now sides.now place split.old.stay.items split.old.kept.items
         split.old.dropped.items }
@@ -123,24 +129,23 @@ fn split_side<S: Scalar>(
     ensures looks { looks.old ≤ looks.new }
 {
     let side = &sides[place];
-    let left = side.row().dot(ineq.left());
-    let right = side.row().dot(ineq.right());
-    if !left.le(right) {
-        let reached = reaching(ineq.left(), side.row(), left);
+    let sums = sums_at(terms, side.row(), looks);
+    let (left, right) = (sums.left, sums.right);
+    if !left.value.le(right.value) {
         split.dropped.push(Dropped {
             place,
-            sum: left,
-            reached,
+            sum: left.value,
+            reached: left.reached,
             words: side.words(),
         })?;
-        split.additions.push(nothing(right))?;
+        split.additions.push(nothing(right.value))?;
         return Ok(());
     }
-    let slot = slot_of(ineq, side.row(), left, right);
+    let slot = slot_of(Sums { left, right });
     let added = addition_of(room, system, ineq, side, slot, looks)?;
     split.additions.push(added)?;
     split.stay.push(place)?;
-    if !is_zero(right) {
+    if !is_zero(right.value) {
         split.kept.push(Kept { place, slot })?;
     }
     Ok(())

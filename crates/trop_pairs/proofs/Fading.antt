@@ -6,7 +6,7 @@ use Rattle.std.proofs.lemmas.List.{get_or_default}
 use Rattle.std.proofs.lemmas.List.Elements.{All-push, All-contains}
 use Rattle.trop_theory.specs.Semiring.{Semiring, SemiringLaws}
 use Rattle.trop_theory.specs.Vectors.{entry, scaled, joined, dot}
-use Rattle.trop_theory.specs.Inequalities.{Inequality, IsIn, Solves}
+use Rattle.trop_theory.specs.Inequalities.{Inequality, IsIn}
 use Rattle.trop_theory.specs.Steps.{mixed}
 use Rattle.trop_theory.proofs.Truth.{HoldsOf, truth}
 use Rattle.trop_criterion.specs.Hypergraphs.{Has}

@@ -9,3 +9,5 @@ pub mod NewRow
 pub mod Putting
 pub mod Sparing
 pub mod Fading
+pub mod Summing
+pub mod Listing

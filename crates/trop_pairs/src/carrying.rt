@@ -16,7 +16,7 @@ use crate::merging::merge_all;
 use crate::slot::RowSlot;
 use crate::words::RowWords;
 use std::alloc::{AllocError, Global};
-use trop_hyper::Mask;
+use trop_hyper::{Looks, Mask};
 use trop_row::{Ineq, Row, System};
 use trop_scalar::Scalar;
 
@@ -51,6 +51,7 @@ pub fn carry<S: Scalar>(
     types: Mask,
     cover: Mask,
     slot: RowSlot<S>,
+    looks: &mut Looks,
 ) -> Result<Carried<S>, AllocError>
     requires inside { All (IsIn system.now.n) system.now.inequalities }
     requires first { IsSide S.ring system.now.n system.now.inequalities first.now }
@@ -67,9 +68,10 @@ pub fn carry<S: Scalar>(
     requires right_size { All (λ slot. S.ring.size right + S.ring.size slot.sum ≤ most_element) second.now.slots }
     ensures side { IfOk result (IsSide S.ring system.now.n (system.now.inequalities ++ ineq.now ∷ [])) }
     ensures row { IfOk result (λ side. side.row ≡ row) }
+    ensures looks { looks.old ≤ looks.new }
 {
     let support = nodes_of(first, second);
-    let all = merge_all(alloc, first.slots(), left, second.slots(), right)?;
+    let all = merge_all(alloc, first.slots(), left, second.slots(), right, looks)?;
     let made = Carried {
         row,
         words: RowWords {

@@ -1,5 +1,5 @@
 // An early test of a pair, before its hypergraph is put together: which nodes some hyperedge still leaves alone.
-ghost use Rattle.std.specs.Prelude.{◌≡◌, ◌⊎◌, ◌+◌, ◌<◌, ◌≤◌, ℕ, List, All, IsTrue, IsFalse, length};
+ghost use Rattle.std.specs.Prelude.{◌≡◌, ◌⊎◌, ◌+◌, ◌^◌, ◌<◌, ◌≤◌, ℕ, List, All, IsTrue, IsFalse, length, min};
 ghost use Rattle.trop_theory.specs.Sizes.{most_element};
 ghost use Rattle.trop_criterion.specs.Hypergraphs.{Has};
 ghost use Rattle.trop_pruning.specs.PairEdges.{HasEdge, slot_at};
@@ -10,7 +10,7 @@ ghost use Rattle.trop_pairs.specs.Early.{IsSpared};
 use crate::carried::{Carried, nodes_of};
 use crate::slot::RowSlot;
 use crate::words::closed_by;
-use trop_hyper::Mask;
+use trop_hyper::{Looks, Mask};
 use trop_row::{Ineq, System};
 use trop_scalar::Scalar;
 
@@ -66,6 +66,7 @@ fn covered<S: Scalar>(
     second: &[RowSlot<S>],
     right: S,
     start: Mask,
+    looks: &mut Looks,
 ) -> Mask
     requires first_within { All (λ k. k < length first.now) places.now }
     requires second_within { All (λ k. k < length second.now) places.now }
@@ -75,7 +76,10 @@ fn covered<S: Scalar>(
     ensures start { (u : ℕ) → (Has result u → ⊥) → Has start u → ⊥ }
     ensures spared { (u : ℕ) → (Has result u → ⊥) → All (λ k. IsSpared S.ring left right
         (slot_at S.ring first.now k) (slot_at S.ring second.now k) u) places.now }
+    ensures counted { min (looks.old + length places.now) (2 ^ 62) ≤ looks.new }
+    ensures kept { looks.old ≤ looks.new }
 {
+    looks.add(places.len());
     let mut covered = start;
     for place in places {
         covered = with_spared(covered, first[*place], left, second[*place], right);
@@ -94,7 +98,8 @@ fn rules_out(left: Mask, types: Mask) -> bool
 }
 
 /// Whether what the pair gives has two nodes that no hyperedge leaves alone, or one that is no type of the second row,
-/// so that it gives no row that has to be found. `slot` is that of the inequality at what the pair gives.
+/// so that it gives no row that has to be found. `slot` is that of the inequality at what the pair gives. Each place
+/// whose slots are read is one look.
 pub fn fades<S: Scalar>(
     system: &System<S>,
     ineq: &Ineq<S>,
@@ -103,23 +108,26 @@ pub fn fades<S: Scalar>(
     second: &Carried<S>,
     right: S,
     slot: RowSlot<S>,
+    looks: &mut Looks,
 ) -> bool
     requires pair { IsPair S.ring system.now.n system.now.inequalities ineq.now first.now second.now left right slot }
     requires left_size { All (λ slot. S.ring.size left + S.ring.size slot.sum ≤ most_element) first.now.slots }
     requires right_size { All (λ slot. S.ring.size right + S.ring.size slot.sum ≤ most_element) second.now.slots }
-    ensures { IsTrue result → (x : List S) (t : ℕ) → GivesTyped S.ring system.now.n system.now.inequalities ineq.now
-        first.now.row second.now.row x t → ⊥ }
+    ensures none { IsTrue result → (x : List S) (t : ℕ) → GivesTyped S.ring system.now.n system.now.inequalities
+        ineq.now first.now.row second.now.row x t → ⊥ }
+    ensures counted { min (looks.old + length first.now.places) (2 ^ 62) ≤ looks.new }
+    ensures kept { looks.old ≤ looks.new }
 {
     let (before, after) = (first.slots(), second.slots());
     let nodes = nodes_of(first, second);
     let types = second.types();
     let start = closed_by(Mask::empty(), slot.tail);
-    let some = covered(first.places(), before, left, after, right, start);
+    let some = covered(first.places(), before, left, after, right, start, looks);
     let early = nodes.minus(some.union(second.cover()));
     if rules_out(early, types) {
         return true;
     }
-    let all = covered(second.places(), after, right, before, left, some);
+    let all = covered(second.places(), after, right, before, left, some, looks);
     let open = nodes.minus(all);
     rules_out(open, types)
 }

@@ -22,7 +22,7 @@ use trop_scalar::Scalar;
 fn two_open(room: &Hyper, looks: &mut Looks) -> bool
     requires { All (λ edge. (j : ℕ) × Has edge.tail j) room.now.edges }
     ensures none { IsTrue result → (t : ℕ) → IsGreatest room.now t → ⊥ }
-    ensures counted { 0 < length room.now.edges → min (looks.old + 1) (2 ^ 62) ≤ looks.new }
+    ensures counted { min (looks.old + length room.now.edges) (2 ^ 62) ≤ looks.new }
     ensures kept { looks.old ≤ looks.new }
 {
     let open = room.nodes().minus(cover_of(room.edges(), looks));
@@ -61,7 +61,7 @@ pub fn judge<S: Scalar>(
     ensures counted { OnOk result (min (looks.old + 1) (2 ^ 62) ≤ looks.new) }
     ensures kept { looks.old ≤ looks.new }
 {
-    fill_pair(room, system, first, left, second, right)?;
+    fill_pair(room, system, first, left, second, right, looks)?;
     add_slot(room, slot)?;
     if two_open(room, looks) {
         return Ok(None);

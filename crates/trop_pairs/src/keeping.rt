@@ -73,7 +73,7 @@ pub fn types_with<S: Scalar>(
     if !types.contains(slot.tail) || types.contains(slot.head) {
         return Ok(types);
     }
-    fill_pair(room, system, side, S::one(), side, S::one())?;
+    fill_pair(room, system, side, S::one(), side, S::one(), looks)?;
     add_slot(room, slot)?;
     match types.first() {
         None => Ok(types),

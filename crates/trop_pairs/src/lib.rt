@@ -13,6 +13,7 @@ mod keeping;
 mod merging;
 mod reading;
 mod slot;
+mod terms;
 mod words;
 
 pub use carried::Carried;
@@ -23,6 +24,7 @@ pub use graph::add_all;
 pub use judging::judge;
 pub use keeping::{Addition, addition_of, left_alone, types_with};
 pub use merging::{Slots, cover_of, merge_all};
-pub use reading::{is_zero, reaching, slot_of};
+pub use reading::{Sum, Sums, is_zero, slot_of, sums_at};
 pub use slot::{RowSlot, merged};
+pub use terms::{Term, Terms};
 pub use words::{RowWords, closed_by, rejects};

@@ -35,20 +35,24 @@ fn push_slot<S: Scalar>(all: &mut Slots<S>, slot: RowSlot<S>) -> Result<(), Allo
     Ok(())
 }
 
-/// The slots that are put together from those of two rows, place by place.
+/// The slots that are put together from those of two rows, place by place. Each place is looked at once.
 pub fn merge_all<S: Scalar>(
     alloc: Global,
     first: &[RowSlot<S>],
     left: S,
     second: &[RowSlot<S>],
     right: S,
+    looks: &mut Looks,
 ) -> Result<Slots<S>, AllocError>
     requires lengths { length first.now ≡ length second.now }
     requires left_size { All (λ slot. S.ring.size left + S.ring.size slot.sum ≤ most_element) first.now }
     requires right_size { All (λ slot. S.ring.size right + S.ring.size slot.sum ≤ most_element) second.now }
-    ensures { IfOk result (λ all. AreMergedTo S.ring left right first.now second.now
+    ensures merged { IfOk result (λ all. AreMergedTo S.ring left right first.now second.now
         (length first.now) all.slots.items all.places.items) }
+    ensures counted { min (looks.old + length first.now) (2 ^ 62) ≤ looks.new }
+    ensures kept { looks.old ≤ looks.new }
 {
+    looks.add(first.len());
     let mut all = Slots {
         slots: Vec::with_capacity(alloc, first.len() + 1)?,
         places: Vec::new(alloc),
@@ -64,12 +68,12 @@ pub fn merge_all<S: Scalar>(
 pub fn cover_of(edges: &[Edge], looks: &mut Looks) -> Mask
     requires { All (λ edge. (j : ℕ) × Has edge.tail j) edges.now }
     ensures cover { (u : ℕ) → (Has result u → ⊥) → IsOpen edges.now u }
-    ensures counted { 0 < length edges.now → min (looks.old + 1) (2 ^ 62) ≤ looks.new }
+    ensures counted { min (looks.old + length edges.now) (2 ^ 62) ≤ looks.new }
     ensures kept { looks.old ≤ looks.new }
 {
+    looks.add(edges.len());
     let mut cover = Mask::empty();
     for edge in edges {
-        looks.add_one();
         cover = cover.union(left_alone(edge.tail, edge.head));
     }
     cover

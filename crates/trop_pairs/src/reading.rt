@@ -1,17 +1,15 @@
-// The slot of an inequality at a row, from its two sums there.
-ghost use Rattle.std.specs.Prelude.{◌≡◌, ◌≢◌, ◌+◌, ◌≤◌, ◌↔◌, ℕ, IsTrue, length};
-ghost use Rattle.trop_theory.specs.Sizes.{most_coefficient, most_element, most_entry};
-ghost use Rattle.trop_theory.specs.Vectors.{dot, row_size};
-ghost use Rattle.trop_theory.specs.Inequalities.{IsIn, inequality_size};
+// The sums of an inequality at a row, and its slot there.
+ghost use Rattle.std.specs.Prelude.{◌≡◌, ◌⊎◌, ◌+◌, ◌^◌, ◌<◌, ◌≤◌, ◌↔◌, ℕ, List, All, IsTrue, length, min};
+ghost use Rattle.trop_theory.specs.Inequalities.{Inequality, IsIn};
 ghost use Rattle.trop_criterion.specs.Hypergraphs.{Has};
-ghost use Rattle.trop_criterion.specs.Tangents.{Attains};
 ghost use Rattle.trop_pruning.specs.Slots.{IsSlot};
+ghost use Rattle.trop_pairs.specs.Sums.{AreTerms, HasTerms, Fits, IsSum, AreSums};
 
 use crate::slot::RowSlot;
-use trop_hyper::Mask;
-use trop_row::{Ineq, Row};
+use crate::terms::{Term, Terms};
+use trop_hyper::{Looks, Mask};
+use trop_row::Row;
 use trop_scalar::Scalar;
-use trop_tangent::attaining;
 
 /// Whether it is the zero.
 pub fn is_zero<S: Scalar>(x: S) -> bool
@@ -20,41 +18,94 @@ pub fn is_zero<S: Scalar>(x: S) -> bool
     x == S::zero()
 }
 
-/// The coordinates where the side reaches its sum, none where this is the zero.
-pub fn reaching<S: Scalar>(side: &Row<S>, row: &Row<S>, sum: S) -> Mask
-    requires lengths { length side.now ≡ length row.now }
-    requires sizes { row_size S.ring side.now + row_size S.ring row.now ≤ most_element }
-    requires sum { sum ≡ dot S.ring side.now row.now }
-    ensures { (j : ℕ) → Has result j ↔ ((dot S.ring side.now row.now ≢ S.ring.zero) ×
-        Attains S.ring side.now row.now j) }
-{
-    if is_zero(sum) {
-        return Mask::empty();
-    }
-    attaining(side.as_slice(), row.as_slice(), sum)
+/// The sum of a side at a row, and the coordinates that reach it where it is finite.
+#[derive(Clone, Copy)]
+pub struct Sum<S> {
+    pub value: S,
+    pub reached: Mask,
 }
 
-/// The slot of the inequality at the row, where `left` and `right` are its sums.
-pub fn slot_of<S: Scalar>(ineq: &Ineq<S>, row: &Row<S>, left: S, right: S) -> RowSlot<S>
-    requires inside { IsIn (length row.now) ineq.now }
-    requires row_size { row_size S.ring row.now ≤ most_entry }
-    requires size { inequality_size S.ring ineq.now ≤ most_coefficient }
-    requires left { left ≡ dot S.ring ineq.now.left row.now }
-    requires right { right ≡ dot S.ring ineq.now.right row.now }
-    ensures { IsSlot S.ring row.now ineq.now result }
+/// The sums of both sides of an inequality at a row.
+#[derive(Clone, Copy)]
+pub struct Sums<S> {
+    pub left: Sum<S>,
+    pub right: Sum<S>,
+}
+
+// The sum, with one more product, that of the coordinate.
+fn with_product<S: Scalar>(sum: Sum<S>, product: S, place: u32) -> Sum<S>
+    requires { place < 64 }
+    ensures value { result.value ≡ S.ring.plus sum.value product }
+    ensures reached { (j : ℕ) → Has result.reached j ↔ (((product ≡ result.value) × (j ≡ place)) ⊎
+        ((sum.value ≡ result.value) × Has sum.reached j)) }
 {
-    let tail = reaching(ineq.right(), row, right);
-    if left == right {
-        let head = reaching(ineq.left(), row, left);
+    if !product.le(sum.value) {
+        return Sum {
+            value: product,
+            reached: Mask::empty().with(place),
+        };
+    }
+    if product == sum.value {
+        return Sum {
+            value: product,
+            reached: sum.reached.with(place),
+        };
+    }
+    sum
+}
+
+// The sum of the side of these terms at the row.
+fn sum_at<S: Scalar>(terms: &[Term<S>], row: &Row<S>) -> Sum<S>
+    requires { All (Fits S.ring row.now) terms.now }
+    ensures { (side : List S) → AreTerms S.ring side terms.now → length side ≡ length row.now →
+        IsSum S.ring side row.now result }
+{
+    let entries = row.as_slice();
+    let mut sum = Sum {
+        value: S::zero(),
+        reached: Mask::empty(),
+    };
+    for term in terms {
+        let product = term.coefficient.times(entries[term.place]);
+        sum = with_product(sum, product, term.place as u32);
+    }
+    if is_zero(sum.value) {
+        sum.reached = Mask::empty();
+    }
+    sum
+}
+
+/// The sums of the inequality of these terms at the row. It is one look.
+pub fn sums_at<S: Scalar>(terms: &Terms<S>, row: &Row<S>, looks: &mut Looks) -> Sums<S>
+    requires left { All (Fits S.ring row.now) terms.now.left.items }
+    requires right { All (Fits S.ring row.now) terms.now.right.items }
+    ensures sums { (p : Inequality S) → HasTerms S.ring p terms.now.left.items terms.now.right.items →
+        IsIn (length row.now) p → AreSums S.ring p row.now result }
+    ensures looks { looks.new ≡ min (looks.old + 1) (2 ^ 62) }
+    ensures kept { looks.old ≤ looks.new }
+{
+    looks.add_one();
+    Sums {
+        left: sum_at(terms.left.as_slice(), row),
+        right: sum_at(terms.right.as_slice(), row),
+    }
+}
+
+/// The slot of an inequality at a row, from its sums there.
+pub fn slot_of<S: Scalar>(sums: Sums<S>) -> RowSlot<S>
+    ensures { (p : Inequality S) (x : List S) → AreSums S.ring p x sums → IsSlot S.ring x p result }
+{
+    let (left, right) = (sums.left, sums.right);
+    if left.value == right.value {
         return RowSlot {
-            sum: right,
-            tail,
-            head,
+            sum: right.value,
+            tail: right.reached,
+            head: left.reached,
         };
     }
     RowSlot {
-        sum: right,
-        tail,
+        sum: right.value,
+        tail: right.reached,
         head: Mask::empty(),
     }
 }

@@ -32,14 +32,14 @@ fades-requires g c =
 
 pub returns-then-fades-clause-grows : goal.returns-then-fades-clause-grows
 returns-then-fades-clause-grows g c = grows_none (found_rows c.args.sides.now c.args.found.now.fresh.items
-    c.args.found.now.order.items) c.args.looks.now c.args.looks.now (omega arith)
+    c.args.found.now.order.items) c.args.looks.now c.fades.new.looks c.fades.ensures.kept
 
 pub returns-then-fades-clause-given : goal.returns-then-fades-clause-given
 returns-then-fades-clause-given g c = faded_given g.met.S.Scalar.ring_laws c.args.system.now.n
     c.args.system.now.inequalities c.args.ineq.now c.args.sides.now c.requires.next c.args.kept.now c.args.dropped.now
     c.requires.kept c.requires.dropped c.index-sides-kept.result c.index-sides-dropped.result c.index-sides-kept.is
     c.index-sides-dropped.is (found_rows c.args.sides.now c.args.found.now.fresh.items c.args.found.now.order.items)
-    (c.fades.ensures c.if-fades.true)
+    (c.fades.ensures.none c.if-fades.true)
 
 pub judge-requires : goal.judge-requires
 judge-requires g c =
@@ -78,7 +78,7 @@ admit-requires g c = record {
 
 pub returns-in-None-clause-grows : goal.returns-in-None-clause-grows
 returns-in-None-clause-grows g c = grows_none (found_rows c.args.sides.now c.args.found.now.fresh.items
-    c.args.found.now.order.items) c.args.looks.now c.judge.new.looks c.judge.ensures.kept
+    c.args.found.now.order.items) c.args.looks.now c.judge.new.looks (omega (arith, c.fades.ensures.kept, c.judge.ensures.kept))
 
 pub returns-in-None-clause-given : goal.returns-in-None-clause-given
 returns-in-None-clause-given g c = none_given g.met.S.Scalar.ring_laws c.args.system.now.n
@@ -110,7 +110,7 @@ returns-else-len-gt-ROW_LIMIT-clause-grows g c = grows_one
       length-found c.args.sides.now c.admit.new.found.fresh.items c.admit.new.found.order.items,
       length-found c.args.sides.now c.args.found.now.fresh.items c.args.found.now.order.items,
     ))
-    c.in_ok-judged.ensures.counted c.in_ok-admit-in-Some.ensures.looks
+    (omega (arith, c.fades.ensures.kept, c.in_ok-judged.ensures.counted)) c.in_ok-admit-in-Some.ensures.looks
 
 pub returns-else-len-gt-ROW_LIMIT-clause-given : goal.returns-else-len-gt-ROW_LIMIT-clause-given
 returns-else-len-gt-ROW_LIMIT-clause-given g c = some_given g.met.S.Scalar.ring_laws c.args.system.now.n

@@ -25,7 +25,7 @@ returns-clause-side g c = carried_new g.met.S.Scalar.ring_laws c.args.system.now
     c.args.right c.args.slot c.args.types c.args.cover c.empty.result c.slots.result.now c.slots-2.result.now
     c.with_edge.result refl refl c.slots.ensures c.slots-2.ensures c.requires.inside c.requires.first c.requires.second
     c.requires.left_finite c.requires.right_finite c.requires.mix c.requires.solves c.requires.types c.requires.cover
-    c.nodes_of-support.ensures c.requires.slot c.requires.edge c.in_ok-all.ensures c.with_edge.ensures
+    c.nodes_of-support.ensures c.requires.slot c.requires.edge c.in_ok-all.ensures.merged c.with_edge.ensures
 
 pub returns-clause-row : goal.returns-clause-row
 returns-clause-row g c = if_ok (HasEdgeAdded (record {

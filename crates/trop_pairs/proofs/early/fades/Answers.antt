@@ -36,8 +36,8 @@ pub covered-all-requires-clause-some : goal.covered-all-requires-clause-some
 covered-all-requires-clause-some g c = subst (All (λ s. HasEdge s → (j : ℕ) × Has s.tail j)) (sym c.slots-after.ensures)
     (tails_of g.met.S.Scalar.ring_laws _ _ c.args.second.now c.requires.pair.inside c.requires.pair.second)
 
-pub returns-then-rules_out : goal.returns-then-rules_out
-returns-then-rules_out g c ruled x t typed = c.rules_out.ensures c.if-rules_out.true t
+pub returns-then-rules_out-clause-none : goal.returns-then-rules_out-clause-none
+returns-then-rules_out-clause-none g c ruled x t typed = c.rules_out.ensures c.if-rules_out.true t
     (dropped_typed g.met.S.Scalar.ring_laws c.args.system.now.n c.args.system.now.inequalities c.args.ineq.now
     c.args.first.now c.args.second.now c.args.left c.args.right c.args.slot c.requires.pair x t typed
     c.types-types.result c.types-types.ensures)
@@ -51,8 +51,8 @@ returns-then-rules_out g c ruled x t typed = c.rules_out.ensures c.if-rules_out.
     c.cover.result c.union.result c.minus-early.result c.cover.ensures c.union.ensures
     c.minus-early.ensures)
 
-pub returns : goal.returns
-returns g c ruled x t typed = c.rules_out-2.ensures ruled t
+pub returns-clause-none : goal.returns-clause-none
+returns-clause-none g c ruled x t typed = c.rules_out-2.ensures ruled t
     (dropped_typed g.met.S.Scalar.ring_laws c.args.system.now.n c.args.system.now.inequalities c.args.ineq.now
     c.args.first.now c.args.second.now c.args.left c.args.right c.args.slot c.requires.pair x t typed
     c.types-types.result c.types-types.ensures)

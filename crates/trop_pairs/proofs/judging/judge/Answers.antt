@@ -46,11 +46,10 @@ returns-then-two_open-clause-tails g c = tails_some g.met.S.Scalar.ring_laws c.a
 pub returns-then-two_open-clause-counted : goal.returns-then-two_open-clause-counted
 returns-then-two_open-clause-counted g c = omega (
   arith,
-  c.two_open.ensures.counted (omega (
-    arith,
-    ap length c.in_ok-add_slot.ensures.added,
-    length-append c.fill_pair.new.room.edges (edge_of c.args.slot ∷ []),
-  )),
+  c.fill_pair.ensures.kept,
+  c.two_open.ensures.counted,
+  ap length c.in_ok-add_slot.ensures.added,
+  length-append c.fill_pair.new.room.edges (edge_of c.args.slot ∷ []),
 )
 
 pub returns-clause-edges : goal.returns-clause-edges
@@ -68,11 +67,9 @@ returns-clause-tails g c = tails_some g.met.S.Scalar.ring_laws c.args.system.now
 pub returns-clause-counted : goal.returns-clause-counted
 returns-clause-counted g c = omega (
   arith,
-  c.two_open.ensures.counted
-      (omega (
-        arith,
-        ap length c.in_ok-add_slot.ensures.added,
-        length-append c.fill_pair.new.room.edges (edge_of c.args.slot ∷ []),
-      )),
+  c.fill_pair.ensures.kept,
+  c.two_open.ensures.counted,
+  ap length c.in_ok-add_slot.ensures.added,
+  length-append c.fill_pair.new.room.edges (edge_of c.args.slot ∷ []),
   c.greatest.ensures.kept,
 )

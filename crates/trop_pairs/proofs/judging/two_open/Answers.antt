@@ -1,4 +1,3 @@
-use Rattle.std.proofs.Common.{◌<◌, ◌≤◌, ◌+◌, ◌^◌, min, length, sym, subst}
 use Rattle.trop_pairs.proofs.PairJudging.{two_left}
 use Rattle.trop_pairs.proofs.judging.two_open.Goals as goal
 

@@ -9,14 +9,10 @@ left_alone-requires c = record {
 }
 
 pub loop-edge-preserved : goal.loop-edge-preserved
-loop-edge-preserved c = record {
-  open_nodes = cover_next c.args.edges.now c.loop-edge.edge-index c.edge-item.result _ c.loop-edge.cover
-      c.left_alone.result c.union-cover.result c.loop-edge-test.true c.edge-item.is c.edge.view_is
-      c.loop-edge.invariant.open_nodes c.left_alone.ensures c.union-cover.ensures;
-  counted = λ some. omega (arith, c.add_one.ensures.count, c.loop-edge.invariant.kept);
-  kept = omega (arith, c.add_one.ensures.kept, c.loop-edge.invariant.kept);
-}
+loop-edge-preserved c = cover_next c.args.edges.now c.loop-edge.edge-index c.edge-item.result _ c.loop-edge.cover
+    c.left_alone.result c.union-cover.result c.loop-edge-test.true c.edge-item.is c.edge.view_is
+    c.loop-edge.invariant c.left_alone.ensures c.union-cover.ensures
 
 pub returns-clause-cover : goal.returns-clause-cover
 returns-clause-cover c = λ u out. cover_end c.args.edges.now c.loop-edge.edge-index u (omega arith)
-    (c.loop-edge.invariant.open_nodes u out)
+    (c.loop-edge.invariant u out)

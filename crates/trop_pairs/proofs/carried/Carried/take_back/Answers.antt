@@ -2,7 +2,6 @@ use Rattle.std.proofs.Common.{rules, ◌≡◌, ◌++◌, ◌∷◌, [], refl, s
 use Rattle.std.specs.Prelude.{IsTrue}
 use Rattle.trop_pruning.specs.PairEdges.{HasEdge}
 use Rattle.trop_criterion.specs.Hypergraphs.{Has}
-use Rattle.trop_pruning.specs.Kept.{IsPut}
 use Rattle.trop_pairs.proofs.Adding.{has_edge}
 use Rattle.trop_pairs.proofs.Putting.{taken_back, places_popped, places_without}
 use Rattle.trop_pairs.proofs.carried.Carried.take_back.Goals as goal
