@@ -149,6 +149,7 @@ impl<'a> Lexer<'a> {
 
 // The kind of the token that begins with b, before the rest, and how many bytes of the rest belong to it.
 #[tactic(auto, unfolding(crate::specs::Tokens::tail_len))]
+#[inline(always)]
 fn shape(b: u8, rest: &[u8]) -> (TokenKind, usize)
     ensures kind { result.0 ≡ tokens.kind_of b rest.now }
     ensures tail { result.1 ≡ tokens.tail_len b rest.now }
