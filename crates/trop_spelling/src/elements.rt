@@ -98,6 +98,7 @@ fn negative<'a, S: Spelling>(at: Pieces<'a>, bound: u64) -> Result<(S, Pieces<'a
 
 // What stands behind the first token of a number or of `-oo`.
 #[tactic(auto, unfolding(trop_grammar::specs::Reading::gives, crate::specs::Elements::behind_at))]
+#[inline(always)]
 pub(crate) fn element_rest<'a, S: Spelling>(
     start: Option<S>,
     at: Pieces<'a>,

@@ -52,6 +52,7 @@ impl<'a> Lexer<'a> {
 
     /// Moves to the first byte of the next token, or to the end.
     #[tactic(auto, using(crate::proofs::Skips::tokens_skip), unfolding(crate::specs::Tokens::tokens_past))]
+    #[inline(always)]
     pub(crate) fn skip(&mut self)
         ensures tokens { left self.new ≡ left self.old }
         ensures source { source self.new ≡ source self.old }
@@ -94,6 +95,7 @@ impl<'a> Lexer<'a> {
 
     /// The token with which the rest begins. `None` at the end.
     #[tactic(auto, using(crate::proofs::Skips::tokens_skip), unfolding(crate::specs::Tokens::tokens_past))]
+    #[inline(always)]
     pub(crate) fn take(&mut self) -> Option<Token<'a>>
         requires { IsAtToken self.old }
         ensures tokens { GivesToken (left self.old) result (left self.new) }
@@ -147,6 +149,7 @@ impl<'a> Lexer<'a> {
 
 // The kind of the token that begins with b, before the rest, and how many bytes of the rest belong to it.
 #[tactic(auto, unfolding(crate::specs::Tokens::tail_len))]
+#[inline(always)]
 fn shape(b: u8, rest: &[u8]) -> (TokenKind, usize)
     ensures kind { result.0 ≡ tokens.kind_of b rest.now }
     ensures tail { result.1 ≡ tokens.tail_len b rest.now }

@@ -44,6 +44,8 @@ impl<'a> Pieces<'a> {
 
     /// The next piece with the pieces behind it. `None` where none is left, which is behind the end of the input.
     #[tactic(auto, unfolding(crate::specs::Pieces::pieces_from))]
+    // A piece with what follows is long, and callers take it apart at once.
+    #[inline(always)]
     pub fn next(self) -> Option<(Piece<'a>, Pieces<'a>)>
         ensures pieces { GivesPiece (pieces_left self.entry) result }
         ensures resumes { Resumes result }
