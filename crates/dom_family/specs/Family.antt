@@ -1,5 +1,5 @@
--- The family of a program by a domain: what comes of the analysis of its control graph, a value for each point; and what
--- every family is.
+-- The family of a program by a domain: what comes of the analysis of its control graph, a value for each point; and
+-- what every family is.
 use Rattle.std.specs.Prelude.{◌≡◌, ◌≤◌, ◌↔◌, ◌+◌, ◌*◌, ℕ, Bool, true, List, Contains, length, slice_index_or}
 use Rattle.prog_theory.specs.States.{State}
 use Rattle.prog_theory.specs.Statements.{Claim}

@@ -23,4 +23,5 @@ pub record IsFairAt {V : Type 0} (D : Relations V) (G : ControlGraph) (delay q :
 pub record IsFair {V : Type 0} (D : Relations V) (G : ControlGraph) (delay : ℕ) (S : Stage V) : Type 0 where
   pub values : length S.values ≡ length G.points
   pub counts : length S.changes ≡ length G.points
-  pub each : (q : ℕ) → q < length G.points → IsFairAt D G delay q (record { value = value_at D G S q; changes = changes_at S q })
+  pub each : (q : ℕ) → q < length G.points
+      → IsFairAt D G delay q (record { value = value_at D G S q; changes = changes_at S q })

@@ -27,13 +27,15 @@ pub record Moves {V : Type 0} (Step : Outcome (Held V) → Type 0) (S T : Stage 
   pub counts : held.changes ≡ (if changed then changes_at S q + 1 else changes_at S q)
 
 -- a pass of the ascent, and whether it has changed a head
-pub record Raises {V : Type 0} (D : Relations V) (G : ControlGraph) (delay pass : ℕ) (S T : Stage V) (changed : Bool) : Type 0 where
+pub record Raises {V : Type 0} (D : Relations V) (G : ControlGraph) (delay pass : ℕ) (S T : Stage V)
+    (changed : Bool) : Type 0 where
   pub gives : Pass (Rises D G delay pass) G S (Gives T)
   pub fair : IsFair D G delay T
   pub counts : MatchBool changed (sum S.changes < sum T.changes) (T.changes ≡ S.changes)
 
 -- a pass of the narrowing
-pub record Settled {V : Type 0} (D : Relations V) (G : ControlGraph) (pass : ℕ) (counts : List ℕ) (old new : List V) : Type 0 where
+pub record Settled {V : Type 0} (D : Relations V) (G : ControlGraph) (pass : ℕ) (counts : List ℕ)
+    (old new : List V) : Type 0 where
   pub gives : Pass (Settles D G pass) G (stage old counts) (Gives (stage new counts))
   pub are : AreValues D G new
 
@@ -45,12 +47,14 @@ IsFirst xs (Err (Range place)) = ⊥
 IsFirst xs (Err NoMemory) = Unit {0}
 
 -- the ascent from S ends in T
-pub record Ascends {V : Type 0} (D : Relations V) (G : ControlGraph) (delay : ℕ) (S T : Stage V) (passes : ℕ) : Type 0 where
+pub record Ascends {V : Type 0} (D : Relations V) (G : ControlGraph) (delay : ℕ) (S T : Stage V)
+    (passes : ℕ) : Type 0 where
   pub gives : Ascent D G delay 1 S (Gives (record { stage = T; passes = passes }))
   pub are : AreValues D G T.values
   pub bound : passes ≤ length G.heads * most_changes D G delay + 1
 
 -- passes of the narrowing
-pub record Narrowed {V : Type 0} (D : Relations V) (G : ControlGraph) (narrow pass : ℕ) (counts : List ℕ) (old new : List V) : Type 0 where
+pub record Narrowed {V : Type 0} (D : Relations V) (G : ControlGraph) (narrow pass : ℕ) (counts : List ℕ)
+    (old new : List V) : Type 0 where
   pub gives : Narrows D G narrow pass (stage old counts) (Gives (stage new counts))
   pub are : AreValues D G new

@@ -43,7 +43,9 @@ pub(crate) fn rise<D: Domain>(
     requires few { graph.now.vars ≤ D.MAX_VARS }
     requires delay { delay ≤ 1000 }
     requires fair { IsFair D.relations graph.now delay (stage values.old.items changes.old.items) }
-    ensures { MatchResult result (λ changed. Raises D.relations graph.now delay pass (stage values.old.items changes.old.items) (stage values.new.items changes.new.items) changed) (StopsAt (Pass (Rises D.relations graph.now delay pass) graph.now (stage values.old.items changes.old.items))) }
+    ensures { MatchResult result (λ changed. Raises D.relations graph.now delay pass
+        (stage values.old.items changes.old.items) (stage values.new.items changes.new.items) changed)
+        (StopsAt (Pass (Rises D.relations graph.now delay pass) graph.now (stage values.old.items changes.old.items))) }
 {
     let count = graph.points().len();
     let mut changed = false;
@@ -64,7 +66,9 @@ pub(crate) fn settle<D: Domain>(
 ) -> Result<(), IterErr>
     requires few { graph.now.vars ≤ D.MAX_VARS }
     requires values { AreValues D.relations graph.now values.old.items }
-    ensures { (counts : _) → MatchResult result (λ _. Settled D.relations graph.now pass counts values.old.items values.new.items) (StopsAt (Pass (Settles D.relations graph.now pass) graph.now (stage values.old.items counts))) }
+    ensures { (counts : _) → MatchResult result
+        (λ _. Settled D.relations graph.now pass counts values.old.items values.new.items)
+        (StopsAt (Pass (Settles D.relations graph.now pass) graph.now (stage values.old.items counts))) }
 {
     let count = graph.points().len();
     for q in 0..count {

@@ -17,7 +17,8 @@ use std::alloc::Global;
 /// Whether a head that changes takes a join, and is not widened.
 fn takes_join<D: Domain>(vars: u32, value: &D, changes: u64, delay: u32) -> bool
     requires { D.relations.vars value.now ≡ vars }
-    ensures { MatchBool result ((value.now ≡ D.relations.bottom vars) ⊎ (changes < delay)) ((¬ value.now ≡ D.relations.bottom vars) × (delay ≤ changes)) }
+    ensures { MatchBool result ((value.now ≡ D.relations.bottom vars) ⊎ (changes < delay))
+        ((¬ value.now ≡ D.relations.bottom vars) × (delay ≤ changes)) }
 {
     if changes < u64::from(delay) {
         true
@@ -38,7 +39,9 @@ fn change<D: Domain>(
 ) -> Result<Option<D>, IterErr>
     requires value { D.relations.vars value.now ≡ graph.now.vars }
     requires sum { D.relations.vars sum.now ≡ graph.now.vars }
-    ensures { MatchResult result (λ o. HeadStep D.relations graph.now delay (spot_of spot) value.now changes sum.now (Gives (held_after value.now changes o))) (StopsAt (HeadStep D.relations graph.now delay (spot_of spot) value.now changes sum.now)) }
+    ensures { MatchResult result (λ o. HeadStep D.relations graph.now delay (spot_of spot) value.now changes sum.now
+        (Gives (held_after value.now changes o)))
+        (StopsAt (HeadStep D.relations graph.now delay (spot_of spot) value.now changes sum.now)) }
 {
     if sum.included(value) {
         return Ok(None);
@@ -71,7 +74,10 @@ pub(crate) fn rise_point<D: Domain>(
     requires values { AreValues D.relations graph.now values.old.items }
     requires counts { length changes.old.items ≡ length graph.now.points }
     requires room { slice_index_or changes.old.items spot.point 0 < 2 ^ 63 }
-    ensures { MatchResult result (λ changed. Moves (Rises D.relations graph.now delay spot.pass (stage values.old.items changes.old.items) spot.point) (stage values.old.items changes.old.items) (stage values.new.items changes.new.items) spot.point changed) (StopsAt (Rises D.relations graph.now delay spot.pass (stage values.old.items changes.old.items) spot.point)) }
+    ensures { MatchResult result (λ changed. Moves
+        (Rises D.relations graph.now delay spot.pass (stage values.old.items changes.old.items) spot.point)
+        (stage values.old.items changes.old.items) (stage values.new.items changes.new.items) spot.point changed)
+        (StopsAt (Rises D.relations graph.now delay spot.pass (stage values.old.items changes.old.items) spot.point)) }
 {
     let q = spot.point as usize;
     let sum = sum_at(alloc, graph, values.as_slice(), spot)?;
@@ -110,7 +116,10 @@ pub(crate) fn settle_point<D: Domain>(
     requires few { graph.now.vars ≤ D.MAX_VARS }
     requires point { spot.point < length graph.now.points }
     requires values { AreValues D.relations graph.now values.old.items }
-    ensures { (counts : _) → MatchResult result (λ _. Moves (Settles D.relations graph.now spot.pass (stage values.old.items counts) spot.point) (stage values.old.items counts) (stage values.new.items counts) spot.point false) (StopsAt (Settles D.relations graph.now spot.pass (stage values.old.items counts) spot.point)) }
+    ensures { (counts : _) → MatchResult result
+        (λ _. Moves (Settles D.relations graph.now spot.pass (stage values.old.items counts) spot.point)
+        (stage values.old.items counts) (stage values.new.items counts) spot.point false)
+        (StopsAt (Settles D.relations graph.now spot.pass (stage values.old.items counts) spot.point)) }
 {
     let sum = sum_at(alloc, graph, values.as_slice(), spot)?;
     take(&mut values[spot.point as usize], sum);

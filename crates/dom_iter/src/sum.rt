@@ -29,11 +29,13 @@ fn add_edge<D: Domain>(
 ) -> Result<D, IterErr>
     requires here { edge.now.to ≡ spot.point }
     requires vars { D.relations.vars sum ≡ vars }
-    requires values { (q : _) → q < length values.now → D.relations.vars (slice_index_or values.now q (D.relations.bottom vars)) ≡ vars }
+    requires values { (q : _) → q < length values.now
+        → D.relations.vars (slice_index_or values.now q (D.relations.bottom vars)) ≡ vars }
     requires from { edge.now.from < length values.now }
     requires fits { FitsOp vars (op_of edge.now.op) }
     requires numbers { EachOp (λ x. Unit {0}) (IsNumberWithin (2 ^ 31 + 1)) (op_of edge.now.op) }
-    ensures { Comes (Adds D.relations (spot_of spot) (λ q. slice_index_or values.now q (D.relations.bottom vars)) number (edge_of edge.now) sum) result }
+    ensures { Comes (Adds D.relations (spot_of spot) (λ q. slice_index_or values.now q (D.relations.bottom vars)) number
+        (edge_of edge.now) sum) result }
 {
     let image = image_at(
         alloc,
@@ -74,11 +76,13 @@ fn add_edges<D: Domain>(
 ) -> Result<D, IterErr>
     requires into { into.now ≡ numbers_to spot.point (map edge_of edges.now) }
     requires vars { D.relations.vars begun ≡ vars }
-    requires values { (q : _) → q < length values.now → D.relations.vars (slice_index_or values.now q (D.relations.bottom vars)) ≡ vars }
+    requires values { (q : _) → q < length values.now
+        → D.relations.vars (slice_index_or values.now q (D.relations.bottom vars)) ≡ vars }
     requires from { All (λ e. e.from < length values.now) (map edge_of edges.now) }
     requires fits { All (λ e. FitsOp vars e.op) (map edge_of edges.now) }
     requires numbers { All (λ e. EachOp (λ x. Unit {0}) (IsNumberWithin (2 ^ 31 + 1)) e.op) (map edge_of edges.now) }
-    ensures { Comes (AddsAll D.relations (spot_of spot) (λ q. slice_index_or values.now q (D.relations.bottom vars)) 0 (map edge_of edges.now) begun) result }
+    ensures { Comes (AddsAll D.relations (spot_of spot) (λ q. slice_index_or values.now q (D.relations.bottom vars)) 0
+        (map edge_of edges.now) begun) result }
 {
     let mut sum = begun;
     for k in 0..into.len() {
@@ -99,7 +103,8 @@ pub(crate) fn sum_at<D: Domain>(
     requires few { graph.now.vars ≤ D.MAX_VARS }
     requires point { spot.point < length graph.now.points }
     requires values { AreValues D.relations graph.now values.now }
-    ensures comes { Comes (Sum D.relations graph.now (spot_of spot) (λ q. slice_index_or values.now q (D.relations.bottom graph.now.vars))) result }
+    ensures comes { Comes (Sum D.relations graph.now (spot_of spot)
+        (λ q. slice_index_or values.now q (D.relations.bottom graph.now.vars))) result }
     ensures vars { IfOk result (λ n. D.relations.vars n ≡ graph.now.vars) }
 {
     let vars = graph.vars();

@@ -61,7 +61,9 @@ fn ascend<D: Domain>(
     requires few { graph.now.vars ≤ D.MAX_VARS }
     requires delay { delay ≤ 1000 }
     requires fair { IsFair D.relations graph.now delay (stage values.old.items changes.old.items) }
-    ensures { MatchResult result (λ passes. Ascends D.relations graph.now delay (stage values.old.items changes.old.items) (stage values.new.items changes.new.items) passes) (StopsAt (Ascent D.relations graph.now delay 1 (stage values.old.items changes.old.items))) }
+    ensures { MatchResult result (λ passes. Ascends D.relations graph.now delay
+        (stage values.old.items changes.old.items) (stage values.new.items changes.new.items) passes)
+        (StopsAt (Ascent D.relations graph.now delay 1 (stage values.old.items changes.old.items))) }
 {
     let _vars = graph.vars();
     let mut pass = 1;
@@ -86,7 +88,9 @@ fn narrow_down<D: Domain>(
     requires few { graph.now.vars ≤ D.MAX_VARS }
     requires values { AreValues D.relations graph.now values.old.items }
     requires room { pass ≤ 2 ^ 63 }
-    ensures { (counts : _) → MatchResult result (λ _. Narrowed D.relations graph.now narrow pass counts values.old.items values.new.items) (StopsAt (Narrows D.relations graph.now narrow pass (stage values.old.items counts))) }
+    ensures { (counts : _) → MatchResult result
+        (λ _. Narrowed D.relations graph.now narrow pass counts values.old.items values.new.items)
+        (StopsAt (Narrows D.relations graph.now narrow pass (stage values.old.items counts))) }
 {
     for k in 0..narrow {
         settle(alloc, graph, values, pass + u64::from(k))?;
@@ -106,9 +110,12 @@ pub fn analyse<D: Domain>(
     requires delay { delay ≤ 1000 }
     requires narrow { narrow ≤ 100 }
     ensures comes { IsAnalysis (Analysis D.relations graph.now delay narrow) result }
-    ensures unstopped { IfOk result (λ f. (stop : Stop) → Analysis D.relations graph.now delay narrow (Stops stop) → ⊥) }
-    ensures covers { IfOk result (λ f. (q : ℕ) (s : State) → Reaches graph.now q s → D.relations.has (slice_index_or f.values.items q (D.relations.bottom graph.now.vars)) s) }
-    ensures passes { IfOk result (λ f. f.passes ≤ length graph.now.heads * (delay + D.relations.max_width graph.now.vars + 1) + 1) }
+    ensures unstopped { IfOk result (λ f. (stop : Stop) → Analysis D.relations graph.now delay narrow (Stops stop)
+        → ⊥) }
+    ensures covers { IfOk result (λ f. (q : ℕ) (s : State) → Reaches graph.now q s
+        → D.relations.has (slice_index_or f.values.items q (D.relations.bottom graph.now.vars)) s) }
+    ensures passes { IfOk result (λ f. f.passes ≤ length graph.now.heads *
+        (delay + D.relations.max_width graph.now.vars + 1) + 1) }
 {
     let mut values = first_values(alloc, graph)?;
     let count = graph.points().len();

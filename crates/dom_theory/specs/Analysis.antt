@@ -8,7 +8,11 @@ use Rattle.dom_theory.specs.Passes.{Stage, Rises, Settles, Pass}
 
 -- nothing at each point, and no head has changed
 abbrev pub at_first : {V : Type 0} → Relations V → ControlGraph → Stage V
-at_first D G = record { values = replicate (length G.points) (D.bottom G.vars); changes = replicate (length G.points) 0 }
+at_first D G = record {
+  values = replicate (length G.points) (D.bottom G.vars);
+  changes = replicate
+      (length G.points) 0;
+}
 
 -- what stands at each point behind the ascent, and the number of its last pass
 pub record Risen (V : Type 0) : Type 0 where
@@ -16,10 +20,13 @@ pub record Risen (V : Type 0) : Type 0 where
   pub passes : ℕ
 
 -- The ascent from this pass on. It ends at the first pass that changes no head.
-pub data Ascent {V : Type 0} (D : Relations V) (G : ControlGraph) (delay : ℕ) : ℕ → Stage V → Outcome (Risen V) → Type 0 where
-  ends : (pass : ℕ) (S T : Stage V) (r : Outcome (Risen V)) → Pass (Rises D G delay pass) G S (Gives T) → T.changes ≡ S.changes →
+pub data Ascent {V : Type 0} (D : Relations V) (G : ControlGraph) (delay : ℕ) : ℕ → Stage V → Outcome (Risen V)
+    → Type 0 where
+  ends : (pass : ℕ) (S T : Stage V) (r : Outcome (Risen V)) → Pass (Rises D G delay pass) G S (Gives T)
+      → T.changes ≡ S.changes →
       r ≡ Gives (record { stage = T; passes = pass }) → Ascent D G delay pass S r
-  goes_on : (pass : ℕ) (S T : Stage V) (r : Outcome (Risen V)) → Pass (Rises D G delay pass) G S (Gives T) → (T.changes ≡ S.changes → ⊥) →
+  goes_on : (pass : ℕ) (S T : Stage V) (r : Outcome (Risen V)) → Pass (Rises D G delay pass) G S (Gives T)
+      → (T.changes ≡ S.changes → ⊥) →
       Ascent D G delay (pass + 1) T r → Ascent D G delay pass S r
   stops : (pass : ℕ) (S : Stage V) (s : Stop) (r : Outcome (Risen V)) → Pass (Rises D G delay pass) G S (Stops s) →
       r ≡ Stops s → Ascent D G delay pass S r

@@ -32,8 +32,8 @@ pub record StateLaws {V : Type 0} (D : Relations V) : Type 0 where
   pub left : (x other y : V) (s : State) → D.joined x other y → D.has x s → D.has y s
   pub right : (x other y : V) (s : State) → D.joined x other y → D.has other s → D.has y s
 
--- A widening lowers the width, which is at most 2^32 on as many variables as a value may have, and what has left a value
--- is more than bottom.
+-- A widening lowers the width, which is at most 2^32 on as many variables as a value may have, and what has left a
+-- value is more than bottom.
 pub record WidthLaws {V : Type 0} (D : Relations V) (most : ℕ) : Type 0 where
   pub bounded : (x : V) → D.width x ≤ D.max_width (D.vars x)
   pub small : (n : ℕ) → n ≤ most → D.max_width n ≤ 2 ^ 32

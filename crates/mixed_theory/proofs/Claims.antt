@@ -1,4 +1,5 @@
 -- A claim that a value proves is true at each of its states.
+-- Index: proved_true.
 use Rattle.std.proofs.Common.{◌≡◌, ◌⊎◌, inl, inr, ⊎_elim, ◌<◌, ℕ, suc, ℤ, false, neg_ℤ, List, [], ◌∷◌, map, length, Contains, All, refl, sym, ap, ◌∙◌, subst, subst₂, arith}
 use Rattle.std.specs.Prelude.{◌≤ℤ◌}
 use Rattle.std.proofs.lemmas.Int.{ints}

@@ -38,8 +38,8 @@ pub record IsShortText {V : Type 0} (D : Relations V) (proven : Claim → V → 
   pub blocks_are : AllZip (IsBlock p.names) end.values blocks
   pub verdicts_are : AllZip (IsJudgedBy proven (value_in D p end.values)) (asserts (nameless p)) verdicts
 
--- The bytes spell a program, whatever the words of its asserts; or they have a first fault as one. The computation stops
--- as `stops` says, and the answer is a text of the program.
+-- The bytes spell a program, whatever the words of its asserts; or they have a first fault as one. The computation
+-- stops as `stops` says, and the answer is a text of the program.
 abbrev pub program_meaning : (Named → Cause → Stop → Type 0) → (Named → List ℕ → Type 0) → Meaning Named
 program_meaning stops text = record {
   spells = λ bytes p. IsWholeProgram program_limits Either (program_pieces bytes) p;

@@ -46,7 +46,8 @@ fn stopped(e: IterErr) -> Refusal
     }
 }
 
-/// What comes of the analysis of the graph by the domain: the value of each point, and the number of passes of the ascent.
+/// What comes of the analysis of the graph by the domain: the value of each point, and the number of passes of the
+/// ascent.
 ///
 /// Errors: `Limit` or `Range` at the first part of the analysis that is refused; want of memory.
 pub fn family<D: Domain>(

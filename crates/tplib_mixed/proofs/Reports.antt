@@ -33,6 +33,7 @@ use Rattle.mixed_print.specs.Texts.{IsMixedText}
 use Rattle.tplib_reply.specs.Meaning.{Cause, OverLimit, OutOfRange}
 use Rattle.tplib_reply.specs.declared.stop.Stop.{Stop}
 use Rattle.tplib_reply.specs.declared.stop.Stop.TheVariants.{Rows, Polar, Lean, At, PointPolar}
+use Rattle.tplib_family.proofs.Claims.{claims_true}
 use Rattle.tplib_family.specs.Views.{cause_of, place_of}
 use Rattle.tplib_family.specs.Stops.{IsListedStop}
 use Rattle.tplib_mixed.specs.Mixed.{IsMixedReport}
@@ -85,28 +86,6 @@ module _ (p : Named) (kept : IsWithin program_limits p) (delay narrow : ℕ) (en
       let turned = ap (λ k. length (heads (nameless p)) * k) same in
       omega (arith, bound, turned)
 
-  module _ (verdicts : List Bool) (judged : AllZip (IsJudgedBy (IsProvedBy max_ring max_numbering)
-      (value_in D p end.values)) (asserts (nameless p)) verdicts)
-      (true_of : (a : Assertion) → Contains (asserts (nameless p)) a →
-      IsProvedBy max_ring max_numbering a.claim (value_in D p end.values a.point) → IsTrueAtVisits p a) where
-    abbrev J : Assertion → Bool → Type 0
-    J = IsJudgedBy (IsProvedBy max_ring max_numbering) (value_in D p end.values)
-
-    judged_at : (k : ℕ) (a : Assertion) → slice_get (asserts (nameless p)) k ≡ Some a →
-        slice_get verdicts k ≡ Some true → J a true
-    judged_at k a is says =
-        let zipped : IsSomeAnd (slice_get verdicts k) (J a) =
-        subst (λ o. MatchOption o (Unit {0}) (λ a. IsSomeAnd (slice_get verdicts k) (J a))) is
-        (AllZip-left J (asserts (nameless p)) verdicts judged k) in
-        subst (λ o. IsSomeAnd o (J a)) says zipped
-
-    claims : (k : ℕ) (a : Assertion) → slice_get (asserts (nameless p)) k ≡ Some a →
-        slice_get verdicts k ≡ Some true → IsTrueAtVisits p a
-    claims k a is says =
-        let xs = asserts (nameless p) in
-        let listed : Contains xs a = (k, slice_get_within xs k a is, get_or_from_slice_get xs k a a is) in
-        true_of a listed ((judged_at k a is says).0 refl)
-
   pub report : (text : List ℕ) → end.passes ≤ length (heads (nameless p)) * (delay + 4097 + 1) + 1 →
       IsMixedText delay narrow end.passes p end.values text → IsMixedReport delay narrow p text
   report text bound h =
@@ -123,7 +102,8 @@ module _ (p : Named) (kept : IsWithin program_limits p) (delay narrow : ℕ) (en
         inequalities = λ q s visit. printed_true end.values h.parts (D.bottom d) h.said q
             (value_sound p kept laws (inclusion d) delay narrow end gives q).0 (twice max_ring max_numbering s)
             (f.visits q s visit);
-        claims = claims h.verdicts h.judged f.claims;
+        claims = claims_true (IsProvedBy max_ring max_numbering) (value_in D p end.values) p h.verdicts h.judged
+            f.claims;
       }
 
   -- ---- no stop

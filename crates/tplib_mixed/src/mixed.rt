@@ -12,15 +12,15 @@ use tplib_reply::{Refusal, Reply};
 // A variable and its opposite are two coordinates.
 const MOST_VARIABLES: u32 = 31;
 
-/// The short report of the invariant family of the program that the bytes spell, over its variables and their opposites,
-/// so that its inequalities mix maxima and minima: for each point of its control graph the rows of its cone and the
-/// inequalities of its external list, and for each assert whether its cone proves the claim. The first `delay` changes of
-/// a loop's head are joins and any other change is a widening; `narrow` descending passes follow (Allamigeon, Gaubert,
-/// Goubault, Inferring min and max invariants using max-plus polyhedra, 2008).
+/// The short report of the invariant family of the program that the bytes spell, over its variables and their
+/// opposites, so that its inequalities mix maxima and minima: for each point of its control graph the rows of its cone
+/// and the inequalities of its external list, and for each assert whether its cone proves the claim. The first `delay`
+/// changes of a loop's head are joins and any other change is a widening; `narrow` descending passes follow
+/// (Allamigeon, Gaubert, Goubault, Inferring min and max invariants using max-plus polyhedra, 2008).
 ///
 /// Errors: the first fault of the bytes as a program, or else `TooManyVars` in the line of its first token where it has
-/// more than 31 variables; `Limit` or `Range` at the first refused place of the analysis, where an image is judged by its
-/// two halves; `Limit` at the first point whose external list stops; want of memory.
+/// more than 31 variables; `Limit` or `Range` at the first refused place of the analysis, where an image is judged by
+/// its two halves; `Limit` at the first point whose external list stops; want of memory.
 pub fn mixed_reply(alloc: Global, delay: u32, narrow: u32, bytes: &[u8]) -> Result<Reply, Refusal>
     requires delay { delay ≤ 1000 }
     requires narrow { narrow ≤ 100 }

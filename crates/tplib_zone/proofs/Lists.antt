@@ -45,6 +45,7 @@ lists_stand = record {
 }
 
 -- what comes of the analysis by lists stands for what comes of it by zones
-pub zones_come : (G : ControlGraph) (delay narrow : ℕ) (r : Outcome (End ZoneList)) → Analysis zone_lists G delay narrow r
+pub zones_come : (G : ControlGraph) (delay narrow : ℕ) (r : Outcome (End ZoneList))
+    → Analysis zone_lists G delay narrow r
     → Analysis zones G delay narrow (outcome_by (end_by zone_of) r)
 zones_come G delay narrow r h = (analysis_stands zone_lists zones zone_of lists_stand G delay narrow).over r h

@@ -28,6 +28,7 @@ use Rattle.zone_print.specs.Reports.{proves, IsZoneReport}
 use Rattle.tplib_reply.specs.Meaning.{Cause}
 use Rattle.tplib_reply.specs.declared.stop.Stop.{Stop}
 use Rattle.tplib_reply.specs.declared.stop.Stop.TheVariants.{Rows, Polar, Lean, At, PointPolar}
+use Rattle.tplib_family.proofs.Claims.{claims_true}
 use Rattle.tplib_family.specs.Views.{cause_of, place_of}
 use Rattle.tplib_family.specs.Stops.{IsAnalysisStop}
 use Rattle.tplib_zone.specs.Zone.{IsClosedOn, IsZoneText}
@@ -37,7 +38,8 @@ use Rattle.tplib_zone.proofs.Laws.{claim_laws}
 use Rattle.tplib_zone.proofs.Bounds.{bounds_met, zone_closed}
 
 -- the graph of the code is that of the program
-pub family_gives : (p : Named) (G : ControlGraph) → G ≡ graph_of (nameless p) → (delay narrow : ℕ) (end : End ZoneList) →
+pub family_gives : (p : Named) (G : ControlGraph) → G ≡ graph_of (nameless p) → (delay narrow : ℕ) (end : End ZoneList)
+    →
     Analysis zone_lists G delay narrow (Gives end) → FamilyOf zone_lists delay narrow p (Gives end)
 family_gives p G is delay narrow end h =
     subst (λ (g : ControlGraph). Analysis zone_lists g delay narrow (Gives end)) is h
@@ -84,28 +86,6 @@ module _ (p : Named) (kept : IsWithin program_limits p) (delay narrow : ℕ) (en
       let turned = ap (λ k. length (heads (nameless p)) * k) same in
       omega (arith, bound, turned)
 
-  module _ (verdicts : List Bool)
-      (judged : AllZip (IsJudgedBy proves (value_in zones p of_zones.values)) (asserts (nameless p)) verdicts)
-      (true_of : (a : Assertion) → Contains (asserts (nameless p)) a →
-      proves a.claim (value_in zones p of_zones.values a.point) → IsTrueAtVisits p a) where
-    abbrev J : Assertion → Bool → Type 0
-    J = IsJudgedBy proves (value_in zones p of_zones.values)
-
-    judged_at : (k : ℕ) (a : Assertion) → slice_get (asserts (nameless p)) k ≡ Some a →
-        slice_get verdicts k ≡ Some true → J a true
-    judged_at k a is says =
-        let zipped : IsSomeAnd (slice_get verdicts k) (J a) =
-        subst (λ o. MatchOption o (Unit {0}) (λ a. IsSomeAnd (slice_get verdicts k) (J a))) is
-        (AllZip-left J (asserts (nameless p)) verdicts judged k) in
-        subst (λ o. IsSomeAnd o (J a)) says zipped
-
-    claims : (k : ℕ) (a : Assertion) → slice_get (asserts (nameless p)) k ≡ Some a →
-        slice_get verdicts k ≡ Some true → IsTrueAtVisits p a
-    claims k a is says =
-        let xs = asserts (nameless p) in
-        let listed : Contains xs a = (k, slice_get_within xs k a is, get_or_from_slice_get xs k a a is) in
-        true_of a listed ((judged_at k a is says).0 refl)
-
   pub report : (text : List ℕ) → end.passes ≤ length (heads (nameless p)) * (delay + max_width d + 1) + 1 →
       IsZoneReport delay narrow end.passes p (map zone_of end.values) text → IsZoneText delay narrow p text
   report text bound h =
@@ -117,7 +97,7 @@ module _ (p : Named) (kept : IsWithin program_limits p) (delay narrow : ℕ) (en
         report = h;
         passes = passes_within bound;
         bounds = λ q s visit. bounds_met (value_in zones p of_zones.values q) s (f.visits q s visit);
-        claims = claims h.verdicts h.verdicts_are f.claims;
+        claims = claims_true proves (value_in zones p of_zones.values) p h.verdicts h.verdicts_are f.claims;
       }
 
   pub unstopped : end.passes ≤ length (heads (nameless p)) * (delay + max_width d + 1) + 1 → (cause : Cause)

@@ -1,4 +1,5 @@
 -- A domain whose values stand for those of another: an analysis by the first is one by the second, value by value.
+-- Index: call_by, outcome_by, end_by, Stands, Carries.
 use Rattle.std.proofs.Common.{◌≡◌, inl, inr, ◌+◌, ◌∙◌, ℕ, zero, suc, List, [], ◌∷◌, map, length, get_or, replicate, refl, sym, subst, ap, Bool, true, false, MatchBool, ◌==◌}
 use Rattle.std.specs.Prelude.{◌↔◌, slice_set}
 use Rattle.prog_theory.specs.Edges.{Op, Edge}
@@ -46,7 +47,8 @@ pub record Stands {V W : Type 0} (D : Relations V) (E : Relations W) (f : V → 
   pub applied : (op : Op) (x y : V) → D.applied op x y → E.applied op (f x) (f y)
   pub joined : (x other y : V) → D.joined x other y → E.joined (f x) (f other) (f y)
   pub widened : (x next y : V) → D.widened x next y → E.widened (f x) (f next) (f y)
-  pub refused : (call : Call V) (cause : Cause) (at : At) → D.refused call cause at ↔ E.refused (call_by f call) cause at
+  pub refused : (call : Call V) (cause : Cause) (at : At)
+      → D.refused call cause at ↔ E.refused (call_by f call) cause at
 
 -- ---- work in parts
 
@@ -80,7 +82,8 @@ get_or-by f [] q d = refl
 get_or-by f (x ∷ xs) zero d = refl
 get_or-by f (x ∷ xs) (suc q) d = get_or-by f xs q d
 
-set-by : {V W : Type 0} (f : V → W) (xs : List V) (q : ℕ) (x : V) → map f (slice_set xs q x) ≡ slice_set (map f xs) q (f x)
+set-by : {V W : Type 0} (f : V → W) (xs : List V) (q : ℕ) (x : V) → map f (slice_set xs q x) ≡ slice_set (map f xs) q
+    (f x)
 set-by f [] q x = refl
 set-by f (y ∷ xs) zero x = refl
 set-by f (y ∷ xs) (suc q) x = ap (λ ys. f y ∷ ys) (set-by f xs q x)
@@ -120,7 +123,8 @@ module _ {V W : Type 0} (D : Relations V) (E : Relations W) (f : V → W) (stand
       (MatchBool-carries f (e.to == spot.point)
       (Then (Asks D spot (EdgePart k) (Apply e.op (value e.from))) (λ image. Asks D spot (SumPart k) (Join n image)))
       (Is n)
-      (Then (Asks E spot (EdgePart k) (Apply e.op (f (value e.from)))) (λ image. Asks E spot (SumPart k) (Join (f n) image)))
+      (Then (Asks E spot (EdgePart k) (Apply e.op (f (value e.from))))
+      (λ image. Asks E spot (SumPart k) (Join (f n) image)))
       (Is (f n))
       (Then-carries f f (Asks D spot (EdgePart k) (Apply e.op (value e.from)))
       (Asks E spot (EdgePart k) (Apply e.op (f (value e.from)))) (λ image. Asks D spot (SumPart k) (Join n image))
@@ -164,7 +168,8 @@ module _ {V W : Type 0} (D : Relations V) (E : Relations W) (f : V → W) (stand
     changed_carries spot call c = Then-carries f (held_by f) (Asks D spot Head call) (Asks E spot Head (call_by f call))
         (λ y. Is (record { value = y; changes = c + 1 })) (λ y. Is (record { value = y; changes = c + 1 }))
         (Asks-carries spot Head call)
-        (λ y. Is-carries (held_by f) (record { value = y; changes = c + 1 }) (record { value = f y; changes = c + 1 }) refl)
+        (λ y. Is-carries (held_by f) (record { value = y; changes = c + 1 }) (record { value = f y; changes = c + 1 })
+        refl)
 
     HeadStep-over : (delay : ℕ) (spot : Spot) (x : V) (c : ℕ) (n : V) (r : Outcome (Held V))
         → HeadStep D G delay spot x c n r → HeadStep E G delay spot (f x) c (f n) (outcome_by (held_by f) r)

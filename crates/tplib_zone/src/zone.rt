@@ -10,10 +10,10 @@ use std::alloc::Global;
 use tplib_reply::{Refusal, Reply};
 
 /// The short report of the family of zones of the program that the bytes spell: for each point of its control graph the
-/// bounds of the closed matrix of its zone, and for each assert whether its zone proves the claim, pair by pair of terms.
-/// The first `delay` changes of a loop's head are joins. Any other change is a widening: of the bounds that the last
-/// widening kept, and at the first one of all bounds, those stay that still hold. `narrow` descending passes follow
-/// (Mine, The octagon abstract domain, 2006: difference bound matrices, and why the kept bounds are not closed).
+/// bounds of the closed matrix of its zone, and for each assert whether its zone proves the claim, pair by pair of
+/// terms. The first `delay` changes of a loop's head are joins. Any other change is a widening: of the bounds that the
+/// last widening kept, and at the first one of all bounds, those stay that still hold. `narrow` descending passes
+/// follow (Mine, The octagon abstract domain, 2006: difference bound matrices, and why the kept bounds are not closed).
 ///
 /// Errors: the first fault of the bytes as a program; `Range` at the first refused place of the analysis, where a bound
 /// has a size above 2^40; want of memory. `Limit` never comes.

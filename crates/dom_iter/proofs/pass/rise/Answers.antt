@@ -14,7 +14,9 @@ returns-in_err-moved g c =
     let G = c.args.graph.now in
     let p = err_from_is_err_and c.from_residual.result c.from_residual.ensures.1 in
     let inside : c.loop-q.q < length G.points = omega (arith, ap length c.points.ensures.value, c.len-count.ensures) in
-    rw (p.1, p.2) (Points-stops (Rises D G c.args.delay c.args.pass) G c.loop-q.q (stage c.loop-q.values.items c.loop-q.changes.items) (stage c.args.values.now.items c.args.changes.now.items) c.in_err-moved.field-0.0
+    rw (p.1, p.2) (Points-stops (Rises D G c.args.delay c.args.pass) G c.loop-q.q
+    (stage c.loop-q.values.items c.loop-q.changes.items) (stage c.args.values.now.items c.args.changes.now.items)
+    c.in_err-moved.field-0.0
     inside c.loop-q.invariant.reads (rw c.spot_in-spot.ensures at c.in_err-moved.ensures))
 
 pub loop-q-preserved : goal.loop-q-preserved
@@ -27,10 +29,15 @@ loop-q-preserved g c =
     let Step = Rises D G c.args.delay c.args.pass in
     let m = rw c.spot_in-spot.ensures at c.in_ok-moved.ensures in
     let inside : q < length G.points = omega (arith, ap length c.points.ensures.value, c.len-count.ensures) in
-    let at = Rises-fair D G c.args.delay c.args.pass S q m.held g.met.D.Domain.laws c.points.ensures.keeps c.loop-q.invariant.fair inside m.gives in
+    let at = Rises-fair D G c.args.delay c.args.pass S q m.held g.met.D.Domain.laws c.points.ensures.keeps
+    c.loop-q.invariant.fair inside m.gives in
     let inside_changes : q < length S.changes = let e = c.loop-q.invariant.fair.counts in omega arith in
     record {
-      reads = λ r h. c.loop-q.invariant.reads r (Points-more Step (length G.points) q S T m.held r inside m.gives m.is h);
-      fair = subst (λ U. IsFair D G c.args.delay U) (sym m.is) (IsFair-put D G c.args.delay S q m.held inside c.loop-q.invariant.fair at);
-      counts = rw (c.either-changed.ensures, ap (λ (U : Stage _). U.changes) m.is) (counts_more c.loop-q.changed c.in_ok-moved.moved c.args.changes.now.items S.changes q m.held.changes inside_changes m.counts c.loop-q.invariant.counts);
+      reads = λ r h. c.loop-q.invariant.reads r
+          (Points-more Step (length G.points) q S T m.held r inside m.gives m.is h);
+      fair = subst (λ U. IsFair D G c.args.delay U) (sym m.is)
+          (IsFair-put D G c.args.delay S q m.held inside c.loop-q.invariant.fair at);
+      counts = rw (c.either-changed.ensures, ap (λ (U : Stage _). U.changes) m.is)
+          (counts_more c.loop-q.changed c.in_ok-moved.moved c.args.changes.now.items S.changes q m.held.changes
+          inside_changes m.counts c.loop-q.invariant.counts);
     }

@@ -7,7 +7,8 @@ use Rattle.dom_iter.proofs.pass.settle.Given as goal
 
 abbrev pub invariant-loop-q : goal.invariant-loop-q
 invariant-loop-q g l = record {
-  reads : (counts : List ℕ) (r : Outcome _) → Points (Settles g.D.Domain.relations l.graph l.pass) (length l.graph.points - l.q) l.q (stage l.values.items counts) r →
+  reads : (counts : List ℕ) (r : Outcome _) → Points (Settles g.D.Domain.relations l.graph l.pass)
+      (length l.graph.points - l.q) l.q (stage l.values.items counts) r →
       Pass (Settles g.D.Domain.relations l.graph l.pass) l.graph (stage l.fn.values.items counts) r;
   are : AreValues g.D.Domain.relations l.graph l.values.items;
 }

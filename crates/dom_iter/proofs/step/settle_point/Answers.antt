@@ -9,7 +9,9 @@ use Rattle.dom_iter.proofs.step.settle_point.Goals as goal
 pub returns-in_err-sum : goal.returns-in_err-sum
 returns-in_err-sum g c = λ counts.
     let p = err_from_is_err_and c.from_residual.result c.from_residual.ensures.1 in
-    rw (p.1, p.2) (Settles-sum_stops g.D.Domain.relations c.args.graph.now c.args.spot.pass (stage c.args.values.now.items counts) c.args.spot.point c.in_err-sum.field-0.0 (rw c.as_slice.ensures.value at c.in_err-sum.ensures.comes))
+    rw (p.1, p.2) (Settles-sum_stops g.D.Domain.relations c.args.graph.now c.args.spot.pass
+    (stage c.args.values.now.items counts) c.args.spot.point c.in_err-sum.field-0.0
+    (rw c.as_slice.ensures.value at c.in_err-sum.ensures.comes))
 
 pub returns : goal.returns
 returns g c = λ counts. record {

@@ -8,7 +8,9 @@ use Rattle.dom_iter.proofs.sum.add_edges.Given as goal
 
 abbrev pub invariant-loop-k : goal.invariant-loop-k
 invariant-loop-k g l = record {
-  reads : (r : Outcome _) → AddsNumbers g.D.Domain.relations (spot_of l.spot) (λ q. get_or l.values q (g.D.Domain.relations.bottom l.vars)) (map edge_of l.edges) (drop l.k l.into) l.sum r →
-      AddsAll g.D.Domain.relations (spot_of l.spot) (λ q. get_or l.values q (g.D.Domain.relations.bottom l.vars)) 0 (map edge_of l.edges) l.fn.begun r;
+  reads : (r : Outcome _) → AddsNumbers g.D.Domain.relations (spot_of l.spot)
+      (λ q. get_or l.values q (g.D.Domain.relations.bottom l.vars)) (map edge_of l.edges) (drop l.k l.into) l.sum r →
+      AddsAll g.D.Domain.relations (spot_of l.spot) (λ q. get_or l.values q (g.D.Domain.relations.bottom l.vars)) 0
+      (map edge_of l.edges) l.fn.begun r;
   vars : g.D.Domain.relations.vars l.sum ≡ l.vars;
 }

@@ -10,7 +10,9 @@ use Rattle.dom_iter.proofs.top.ascend.Goals as goal
 pub returns-in_err-changed : goal.returns-in_err-changed
 returns-in_err-changed g c =
     let p = err_from_is_err_and c.from_residual.result c.from_residual.ensures.1 in
-    rw (p.1, p.2) (Ascent-stops g.D.Domain.relations c.args.graph.now c.args.delay c.loop-changed.pass (stage c.loop-changed.values.items c.loop-changed.changes.items) (stage c.args.values.now.items c.args.changes.now.items)
+    rw (p.1, p.2) (Ascent-stops g.D.Domain.relations c.args.graph.now c.args.delay c.loop-changed.pass
+    (stage c.loop-changed.values.items c.loop-changed.changes.items)
+    (stage c.args.values.now.items c.args.changes.now.items)
     c.in_err-changed.field-0.0 c.loop-changed.invariant.reads c.in_err-changed.ensures)
 
 pub returns-else-changed : goal.returns-else-changed
@@ -22,7 +24,9 @@ returns-else-changed g c =
     let m = c.in_ok-changed.ensures in
     let b = changes_bound D G c.args.delay S c.loop-changed.invariant.fair in
     record {
-      gives = c.loop-changed.invariant.reads _ (Ascent-ends D G c.args.delay c.loop-changed.pass S T m.gives (when_false (sum S.changes < sum T.changes) (T.changes ≡ S.changes) c.if-changed.false m.counts));
+      gives = c.loop-changed.invariant.reads _
+          (Ascent-ends D G c.args.delay c.loop-changed.pass S T m.gives
+          (when_false (sum S.changes < sum T.changes) (T.changes ≡ S.changes) c.if-changed.false m.counts));
       are = IsFair-values D G c.args.delay T m.fair;
       bound = omega arith;
     }
@@ -33,7 +37,8 @@ overflow_add-pass g c =
     let G = c.args.graph.now in
     let S = stage c.loop-changed.values.items c.loop-changed.changes.items in
     let b = changes_bound D G c.args.delay S c.loop-changed.invariant.fair in
-    let a = all_changes D G c.args.delay g.met.D.Domain.laws c.requires.few c.vars-vars.ensures.keeps c.requires.delay in
+    let a = all_changes D G c.args.delay g.met.D.Domain.laws c.requires.few c.vars-vars.ensures.keeps
+    c.requires.delay in
     omega arith
 
 pub loop-changed-smaller : goal.loop-changed-smaller
@@ -56,7 +61,8 @@ loop-changed-preserved g c =
     let m = c.in_ok-changed.ensures in
     let more = when_true (sum S.changes < sum T.changes) (T.changes ≡ S.changes) c.if-changed.true m.counts in
     record {
-      reads = λ r h. c.loop-changed.invariant.reads r (Ascent-goes_on D G c.args.delay c.loop-changed.pass S T r m.gives more h);
+      reads = λ r h. c.loop-changed.invariant.reads r
+          (Ascent-goes_on D G c.args.delay c.loop-changed.pass S T r m.gives more h);
       fair = m.fair;
       counted = let k = c.loop-changed.invariant.counted in omega arith;
     }

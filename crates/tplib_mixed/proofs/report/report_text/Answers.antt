@@ -19,7 +19,8 @@ returns-in_err-family-clause-refused c =
 pub print_mixed-requires-clause-points : goal.print_mixed-requires-clause-points
 print_mixed-requires-clause-points c =
     let p = c.args.program.now in
-    let E : End (Value (Option ℤ)) = record { values = c.in_ok-family.family.values.items; passes = c.in_ok-family.family.passes } in
+    let E : End (Value (Option ℤ)) = record
+    { values = c.in_ok-family.family.values.items; passes = c.in_ok-family.family.passes } in
     let gives = family_gives p c.args.delay c.args.narrow c.in_ok-graph.graph c.in_ok-graph.ensures.graph E
     c.in_ok-family.ensures.gives in
     ap length c.as_slice-values.ensures.value
@@ -28,7 +29,8 @@ print_mixed-requires-clause-points c =
 pub print_mixed-requires-clause-vars : goal.print_mixed-requires-clause-vars
 print_mixed-requires-clause-vars c =
     let p = c.args.program.now in
-    let E : End (Value (Option ℤ)) = record { values = c.in_ok-family.family.values.items; passes = c.in_ok-family.family.passes } in
+    let E : End (Value (Option ℤ)) = record
+    { values = c.in_ok-family.family.values.items; passes = c.in_ok-family.family.passes } in
     let gives = family_gives p c.args.delay c.args.narrow c.in_ok-graph.graph c.in_ok-graph.ensures.graph E
     c.in_ok-family.ensures.gives in
     subst (All (λ v. variables v ≡ length p.names)) (sym c.as_slice-values.ensures.value)
@@ -37,7 +39,8 @@ print_mixed-requires-clause-vars c =
 pub returns-in-Ok-clause-text : goal.returns-in-Ok-clause-text
 returns-in-Ok-clause-text c =
     let p = c.args.program.now in
-    let E : End (Value (Option ℤ)) = record { values = c.in_ok-family.family.values.items; passes = c.in_ok-family.family.passes } in
+    let E : End (Value (Option ℤ)) = record
+    { values = c.in_ok-family.family.values.items; passes = c.in_ok-family.family.passes } in
     let gives = family_gives p c.args.delay c.args.narrow c.in_ok-graph.graph c.in_ok-graph.ensures.graph E
     c.in_ok-family.ensures.gives in
     report p c.names-names.ensures.keeps.within c.args.delay c.args.narrow E gives c.in-Ok.text.items
@@ -49,7 +52,8 @@ returns-in-Ok-clause-text c =
 pub returns-in-Ok-clause-unstopped : goal.returns-in-Ok-clause-unstopped
 returns-in-Ok-clause-unstopped c =
     let p = c.args.program.now in
-    let E : End (Value (Option ℤ)) = record { values = c.in_ok-family.family.values.items; passes = c.in_ok-family.family.passes } in
+    let E : End (Value (Option ℤ)) = record
+    { values = c.in_ok-family.family.values.items; passes = c.in_ok-family.family.passes } in
     let gives = family_gives p c.args.delay c.args.narrow c.in_ok-graph.graph c.in_ok-graph.ensures.graph E
     c.in_ok-family.ensures.gives in
     unstopped p c.names-names.ensures.keeps.within c.args.delay c.args.narrow E gives
@@ -60,7 +64,8 @@ returns-in-Ok-clause-unstopped c =
 pub returns-clause-refused : goal.returns-clause-refused
 returns-clause-refused c =
     let p = c.args.program.now in
-    let E : End (Value (Option ℤ)) = record { values = c.in_ok-family.family.values.items; passes = c.in_ok-family.family.passes } in
+    let E : End (Value (Option ℤ)) = record
+    { values = c.in_ok-family.family.values.items; passes = c.in_ok-family.family.passes } in
     let gives = family_gives p c.args.delay c.args.narrow c.in_ok-graph.graph c.in_ok-graph.ensures.graph E
     c.in_ok-family.ensures.gives in
     refused_as c.args.delay c.args.narrow p E gives c.as_slice-values.result.now c.as_slice-values.ensures.value
