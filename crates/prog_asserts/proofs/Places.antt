@@ -42,7 +42,8 @@ mutual
   block_listed (Then st b) p k next =
       ap₂ (λ (y z : List Stmt). y ++ z) (stmt_listed st p k (entry (p + width st) b next))
       (block_listed b (p + width st) (k + count st) next)
-      ∙ sym (stmts_of-append (places p k st (entry (p + width st) b next)) (places_of (p + width st) (k + count st) b next))
+      ∙ sym (stmts_of-append (places p k st (entry (p + width st) b next))
+      (places_of (p + width st) (k + count st) b next))
 
 past_inner : (m p : ℕ) (ps : List Point) (sts : List Stmt)
     → asserts_along p (replicate m Inner ++ ps) sts ≡ asserts_along (p + m) ps sts

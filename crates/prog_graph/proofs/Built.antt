@@ -78,7 +78,8 @@ targets-edges (e ∷ es) = ap (λ (x : List ℕ). e.to ∷ x) (targets-edges es)
 abbrev graph_with : ℕ → List graph.Point → List theory.Edge → List ℕ → ControlGraph
 graph_with v P E H = record { vars = v; points = P; edges = E; heads = H }
 
-graph_parts : (v v' : ℕ) (P P' : List graph.Point) (E E' : List theory.Edge) (H H' : List ℕ) → v ≡ v' → P ≡ P' → E ≡ E' → H ≡ H'
+graph_parts : (v v' : ℕ) (P P' : List graph.Point) (E E' : List theory.Edge) (H H' : List ℕ) → v ≡ v' → P ≡ P' → E ≡ E'
+    → H ≡ H'
     → graph_with v P E H ≡ graph_with v' P' E' H'
 graph_parts v v' P P' E E' H H' d e f g =
     ap (λ (x : ℕ). graph_with x P E H) d
@@ -87,7 +88,8 @@ graph_parts v v' P P' E E' H H' d e f g =
     ∙ ap (λ (x : List ℕ). graph_with v' P' E' x) g
 
 module _ (p : Named) (k : IsProgram p) (v : ℕ) (b : Block) (vs : List Point) (es : List Edge) (hs : List ℕ)
-    (is_vars : v ≡ length p.names) (is_body : b ≡ p.body) (is_points : map point_of vs ≡ points_bl 0 b ++ graph.Exit ∷ [])
+    (is_vars : v ≡ length p.names) (is_body : b ≡ p.body)
+    (is_points : map point_of vs ≡ points_bl 0 b ++ graph.Exit ∷ [])
     (is_edges : map edge_of es ≡ edges_bl 0 b (widths b)) (is_heads : hs ≡ heads_bl 0 b) where
   abbrev Built : ControlGraph
   Built = graph_with v (map point_of vs) (map edge_of es) hs
@@ -105,13 +107,15 @@ module _ (p : Named) (k : IsProgram p) (v : ℕ) (b : Block) (vs : List Point) (
   pub built_statements : (q n : ℕ) (s : State) → slice_get (map point_of vs) q ≡ Some (graph.Statement n)
       → Reaches Built q s ↔ VisitsStatement (nameless p) n s
   built_statements =
-      subst (λ (G : ControlGraph). (q n : ℕ) (s : State) → slice_get G.points q ≡ Some (graph.Statement n) → Reaches G q s ↔ VisitsStatement (nameless p) n s)
+      subst (λ (G : ControlGraph). (q n : ℕ) (s : State) → slice_get G.points q ≡ Some (graph.Statement n) → Reaches G
+      q s ↔ VisitsStatement (nameless p) n s)
       (sym built) (walks_are_visits_of_statements (nameless p))
 
   pub built_exit : (q : ℕ) (s : State) → slice_get (map point_of vs) q ≡ Some graph.Exit
       → Reaches Built q s ↔ VisitsEnd (nameless p) s
   built_exit =
-      subst (λ (G : ControlGraph). (q : ℕ) (s : State) → slice_get G.points q ≡ Some graph.Exit → Reaches G q s ↔ VisitsEnd (nameless p) s)
+      subst (λ (G : ControlGraph). (q : ℕ) (s : State) → slice_get G.points q ≡ Some graph.Exit → Reaches G q s ↔
+      VisitsEnd (nameless p) s)
       (sym built) (walks_are_visits_of_the_end (nameless p))
 
   pub built_few : length es ≤ 65536

@@ -28,14 +28,17 @@ last_number b k = if b then k ∷ [] else []
 numbers_turn : (k p : ℕ) (ts : List ℕ) (t : ℕ) (b : Bool)
     → numbers_from (k + 1) p (ts ++ t ∷ []) ≡ numbers_from (k + 1) p ts ++ last_number (t == p) (k + 1 + length ts)
     → (if b then k ∷ numbers_from (k + 1) p (ts ++ t ∷ []) else numbers_from (k + 1) p (ts ++ t ∷ []))
-    ≡ (if b then k ∷ numbers_from (k + 1) p ts else numbers_from (k + 1) p ts) ++ last_number (t == p) (k + suc (length ts))
+    ≡ (if b then k ∷ numbers_from (k + 1) p ts else numbers_from (k + 1) p ts) ++ last_number (t == p)
+    (k + suc (length ts))
 numbers_turn k p ts t b h =
     let e : k + 1 + length ts ≡ k + suc (length ts) = omega arith in
     go b (h ∙ ap (λ (x : ℕ). numbers_from (k + 1) p ts ++ last_number (t == p) x) e)
   where
-    go : (b : Bool) → numbers_from (k + 1) p (ts ++ t ∷ []) ≡ numbers_from (k + 1) p ts ++ last_number (t == p) (k + suc (length ts))
+    go : (b : Bool) → numbers_from (k + 1) p (ts ++ t ∷ []) ≡ numbers_from (k + 1) p ts ++ last_number (t == p)
+        (k + suc (length ts))
         → (if b then k ∷ numbers_from (k + 1) p (ts ++ t ∷ []) else numbers_from (k + 1) p (ts ++ t ∷ []))
-        ≡ (if b then k ∷ numbers_from (k + 1) p ts else numbers_from (k + 1) p ts) ++ last_number (t == p) (k + suc (length ts))
+        ≡ (if b then k ∷ numbers_from (k + 1) p ts else numbers_from (k + 1) p ts) ++ last_number (t == p)
+        (k + suc (length ts))
     go true e = ap (λ (x : List ℕ). k ∷ x) e
     go false e = e
 
@@ -56,18 +59,22 @@ one_more lists n ts t k h l e = record {
   each = λ p i. each p i;
 }
   where
-    same : (p : ℕ) → p < n → t ≡ p → get_or (set lists t (get_or lists t [] ++ k ∷ [])) p [] ≡ numbers_from 0 p ts ++ (0 + length ts) ∷ []
+    same : (p : ℕ) → p < n → t ≡ p → get_or (set lists t (get_or lists t [] ++ k ∷ [])) p [] ≡ numbers_from 0 p ts ++
+        (0 + length ts) ∷ []
     same p i f =
-        subst (λ (q : ℕ). get_or (set lists t (get_or lists t [] ++ k ∷ [])) q [] ≡ numbers_from 0 q ts ++ (0 + length ts) ∷ []) f
+        subst (λ (q : ℕ). get_or (set lists t (get_or lists t [] ++ k ∷ [])) q [] ≡ numbers_from 0 q ts ++
+        (0 + length ts) ∷ []) f
         (get_or-set_same lists t (get_or lists t [] ++ k ∷ []) [] (omega (arith, h.many))
         ∙ ap (λ (x : List ℕ). x ++ k ∷ []) (h.each t l)
         ∙ (let z : k ≡ 0 + length ts = omega (arith, e) in ap (λ (x : ℕ). numbers_from 0 t ts ++ x ∷ []) z))
 
     each : (p : ℕ) → p < n → get_or (set lists t (get_or lists t [] ++ k ∷ [])) p [] ≡ numbers_from 0 p (ts ++ t ∷ [])
     each p i = elim (eqb_tells t p) [
-      | inl w ↦ same p i w.1 ∙ sym (numbers_more 0 p ts t ∙ ap (λ (b : Bool). numbers_from 0 p ts ++ last_number b (0 + length ts)) w.0)
+      | inl w ↦ same p i w.1 ∙ sym (numbers_more 0 p ts t ∙ ap
+          (λ (b : Bool). numbers_from 0 p ts ++ last_number b (0 + length ts)) w.0)
       | inr w ↦ get_or-set_other lists t p (get_or lists t [] ++ k ∷ []) [] (λ f. w.1 (sym f)) ∙ h.each p i
-          ∙ sym (numbers_more 0 p ts t ∙ ap (λ (b : Bool). numbers_from 0 p ts ++ last_number b (0 + length ts)) w.0 ∙ append-nil (numbers_from 0 p ts))
+          ∙ sym (numbers_more 0 p ts t ∙ ap (λ (b : Bool). numbers_from 0 p ts ++ last_number b (0 + length ts)) w.0 ∙
+          append-nil (numbers_from 0 p ts))
     ]
 
 -- ---- one turn of the loop over the edges
@@ -100,5 +107,6 @@ turn vs n es k m d e old new h l i is_old is_new is_m =
     let lists : numbers_of (set vs t new) ≡ set (numbers_of vs) t (get_or (numbers_of vs) t [] ++ m ∷ []) =
     map-set (λ v. v.items) vs t new ∙ ap (λ (x : List ℕ). set (numbers_of vs) t x) now in
     subst (λ (x : List (List ℕ)). AreInto x n (targets (take (k + 1) es))) (sym lists)
-    (subst (λ (x : List ℕ). AreInto (set (numbers_of vs) t (get_or (numbers_of vs) t [] ++ m ∷ [])) n x) (sym (take_more es k d l))
+    (subst (λ (x : List ℕ). AreInto (set (numbers_of vs) t (get_or (numbers_of vs) t [] ++ m ∷ [])) n x)
+    (sym (take_more es k d l))
     (one_more (numbers_of vs) n (targets (take k es)) t m h i (is_m ∙ taken es k l)))

@@ -21,8 +21,10 @@ mutual
   stmt_edges : (st : Stmt) (p k next : ℕ) → edges_of (places p k st next) ≡ edges_st p st next
   stmt_edges (If c a b) p k next =
       ap (λ (z : List Edge). own_edges p (If c a b) next ++ z)
-      (edges_of-append (places_of (p + 1 + inner (test c)) (k + 1) a next) (places_of (p + 1 + inner (test c) + widths a) (k + 1 + counts a) b next)
-      ∙ ap₂ (λ (y z : List Edge). y ++ z) (block_edges a (p + 1 + inner (test c)) (k + 1) next) (block_edges b (p + 1 + inner (test c) + widths a) (k + 1 + counts a) next))
+      (edges_of-append (places_of (p + 1 + inner (test c)) (k + 1) a next)
+      (places_of (p + 1 + inner (test c) + widths a) (k + 1 + counts a) b next)
+      ∙ ap₂ (λ (y z : List Edge). y ++ z) (block_edges a (p + 1 + inner (test c)) (k + 1) next)
+      (block_edges b (p + 1 + inner (test c) + widths a) (k + 1 + counts a) next))
   stmt_edges (While c a) p k next =
       ap (λ (z : List Edge). own_edges p (While c a) next ++ z) (block_edges a (p + 1 + inner (test c)) (k + 1) p)
   stmt_edges (Set x t) p k next = append-nil (own_edges p (Set x t) next)
@@ -35,7 +37,8 @@ mutual
   block_edges Empty p k next = refl
   block_edges (Then st b) p k next =
       edges_of-append (places p k st (entry (p + width st) b next)) (places_of (p + width st) (k + count st) b next)
-      ∙ ap₂ (λ (y z : List Edge). y ++ z) (stmt_edges st p k (entry (p + width st) b next)) (block_edges b (p + width st) (k + count st) next)
+      ∙ ap₂ (λ (y z : List Edge). y ++ z) (stmt_edges st p k (entry (p + width st) b next))
+      (block_edges b (p + width st) (k + count st) next)
 
 pub program_edges : (P : Program) → edges P ≡ edges_bl 0 P.body (widths P.body)
 program_edges P = block_edges P.body 0 0 (widths P.body)
@@ -43,16 +46,19 @@ program_edges P = block_edges P.body 0 0 (widths P.body)
 -- ---- points, with what stands behind them
 
 mutual
-  stmt_points : (st : Stmt) (p k next : ℕ) (ls : List Place) → points_of (places p k st next ++ ls) ≡ points_st k st ++ points_of ls
+  stmt_points : (st : Stmt) (p k next : ℕ) (ls : List Place) → points_of (places p k st next ++ ls) ≡ points_st k st ++
+      points_of ls
   stmt_points (If c a b) p k next ls =
       let first = places_of (p + 1 + inner (test c)) (k + 1) a next in
       let second = places_of (p + 1 + inner (test c) + widths a) (k + 1 + counts a) b next in
       ap (λ (z : List Point). own_points k (If c a b) ++ z)
       (ap points_of (append_assoc first second ls)
       ∙ block_points a (p + 1 + inner (test c)) (k + 1) next (second ++ ls)
-      ∙ ap (λ (z : List Point). points_bl (k + 1) a ++ z) (block_points b (p + 1 + inner (test c) + widths a) (k + 1 + counts a) next ls)
+      ∙ ap (λ (z : List Point). points_bl (k + 1) a ++ z)
+      (block_points b (p + 1 + inner (test c) + widths a) (k + 1 + counts a) next ls)
       ∙ sym (append_assoc (points_bl (k + 1) a) (points_bl (k + 1 + counts a) b) (points_of ls)))
-      ∙ sym (append_assoc (own_points k (If c a b)) (points_bl (k + 1) a ++ points_bl (k + 1 + counts a) b) (points_of ls))
+      ∙ sym (append_assoc (own_points k (If c a b)) (points_bl (k + 1) a ++ points_bl (k + 1 + counts a) b)
+      (points_of ls))
   stmt_points (While c a) p k next ls =
       ap (λ (z : List Point). own_points k (While c a) ++ z) (block_points a (p + 1 + inner (test c)) (k + 1) p ls)
       ∙ sym (append_assoc (own_points k (While c a)) (points_bl (k + 1) a) (points_of ls))
@@ -62,7 +68,8 @@ mutual
   stmt_points (Assert c) p k next ls = refl
   stmt_points Skip p k next ls = refl
 
-  block_points : (b : Block) (p k next : ℕ) (ls : List Place) → points_of (places_of p k b next ++ ls) ≡ points_bl k b ++ points_of ls
+  block_points : (b : Block) (p k next : ℕ) (ls : List Place) → points_of (places_of p k b next ++ ls) ≡ points_bl k b
+      ++ points_of ls
   block_points Empty p k next ls = refl
   block_points (Then st b) p k next ls =
       let first = places p k st (entry (p + width st) b next) in
@@ -87,8 +94,10 @@ heads_of-append (l ∷ xs) ys =
 mutual
   stmt_heads : (st : Stmt) (p k next : ℕ) → heads_of (places p k st next) ≡ heads_st p st
   stmt_heads (If c a b) p k next =
-      heads_of-append (places_of (p + 1 + inner (test c)) (k + 1) a next) (places_of (p + 1 + inner (test c) + widths a) (k + 1 + counts a) b next)
-      ∙ ap₂ (λ (y z : List ℕ). y ++ z) (block_heads a (p + 1 + inner (test c)) (k + 1) next) (block_heads b (p + 1 + inner (test c) + widths a) (k + 1 + counts a) next)
+      heads_of-append (places_of (p + 1 + inner (test c)) (k + 1) a next)
+      (places_of (p + 1 + inner (test c) + widths a) (k + 1 + counts a) b next)
+      ∙ ap₂ (λ (y z : List ℕ). y ++ z) (block_heads a (p + 1 + inner (test c)) (k + 1) next)
+      (block_heads b (p + 1 + inner (test c) + widths a) (k + 1 + counts a) next)
   stmt_heads (While c a) p k next =
       ap (λ (z : List ℕ). own_heads p (While c a) ++ z) (block_heads a (p + 1 + inner (test c)) (k + 1) p)
   stmt_heads (Set x t) p k next = refl
@@ -101,7 +110,8 @@ mutual
   block_heads Empty p k next = refl
   block_heads (Then st b) p k next =
       heads_of-append (places p k st (entry (p + width st) b next)) (places_of (p + width st) (k + count st) b next)
-      ∙ ap₂ (λ (y z : List ℕ). y ++ z) (stmt_heads st p k (entry (p + width st) b next)) (block_heads b (p + width st) (k + count st) next)
+      ∙ ap₂ (λ (y z : List ℕ). y ++ z) (stmt_heads st p k (entry (p + width st) b next))
+      (block_heads b (p + width st) (k + count st) next)
 
 pub program_heads : (P : Program) → heads P ≡ heads_bl 0 P.body
 program_heads P = block_heads P.body 0 0 (widths P.body)

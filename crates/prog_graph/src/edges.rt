@@ -32,7 +32,8 @@ fn entry(block: &Block, at: u32, next: u32) -> u32
 fn stmt_edges(out: &mut Vec<Edge>, st: &Stmt, point: u32, next: u32) -> Result<(), NoMemory>
     requires modest { EachStmt IsAnything IsModest (stmt_of st.now) }
     requires fits { point + width (stmt_of st.now) < 2 ^ 32 }
-    ensures { OnOk result (map edge_of out.new.items ≡ map edge_of out.old.items ++ edges_st point (stmt_of st.now) next) }
+    ensures { OnOk result (map edge_of out.new.items ≡ map edge_of out.old.items ++ edges_st point (stmt_of st.now)
+        next) }
 {
     match st {
         Stmt::Set { var, value } => push_edge(

@@ -103,8 +103,10 @@ impl Graph {
 pub fn build(alloc: Global, program: &Program) -> Result<Graph, NoMemory>
     ensures graph { IfOk result (λ g. g ≡ graph_of (nameless program.now)) }
     ensures keeps { IfOk result (λ g. IsControlGraph g) }
-    ensures statements { IfOk result (λ g. (p k : ℕ) (s : State) → slice_get g.points p ≡ Some (graph.Statement k) → Reaches g p s ↔ VisitsStatement (nameless program.now) k s) }
-    ensures exit { IfOk result (λ g. (p : ℕ) (s : State) → slice_get g.points p ≡ Some graph.Exit → Reaches g p s ↔ VisitsEnd (nameless program.now) s) }
+    ensures statements { IfOk result (λ g. (p k : ℕ) (s : State) → slice_get g.points p ≡ Some (graph.Statement k) →
+        Reaches g p s ↔ VisitsStatement (nameless program.now) k s) }
+    ensures exit { IfOk result (λ g. (p : ℕ) (s : State) → slice_get g.points p ≡ Some graph.Exit → Reaches g p s ↔
+        VisitsEnd (nameless program.now) s) }
 {
     let body = program.body();
     let items = program_points(alloc, body)?;

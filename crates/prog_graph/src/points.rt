@@ -29,7 +29,8 @@ fn push_inner(out: &mut Vec<Point>, count: u32) -> Result<(), NoMemory>
 fn stmt_points(out: &mut Vec<Point>, st: &Stmt, number: u32) -> Result<(), NoMemory>
     requires numbers { number + count (stmt_of st.now) < 2 ^ 32 }
     requires fits { width (stmt_of st.now) < 2 ^ 32 }
-    ensures { OnOk result (map point_of out.new.items ≡ map point_of out.old.items ++ points_st number (stmt_of st.now)) }
+    ensures { OnOk result (map point_of out.new.items ≡ map point_of out.old.items ++ points_st number
+        (stmt_of st.now)) }
 {
     out.push(Point::Statement(number))?;
     match st {

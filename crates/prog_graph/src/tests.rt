@@ -35,7 +35,8 @@ fn guard_edges(
     miss: Option<u32>,
 ) -> Result<(), NoMemory>
     requires { IsModest (term_of right) }
-    ensures { OnOk result (map edge_of out.new.items ≡ map edge_of out.old.items ++ test_edges (tests.Guard (term_of left) (term_of right)) from 0 hit miss) }
+    ensures { OnOk result (map edge_of out.new.items ≡ map edge_of out.old.items ++ test_edges
+        (tests.Guard (term_of left) (term_of right)) from 0 hit miss) }
 {
     push_edge(out, from, hit, Op::Guard { left, right })?;
     push_edge(
@@ -61,7 +62,9 @@ fn equal_edges(
 ) -> Result<(), NoMemory>
     requires left_modest { IsModest (term_of left) }
     requires right_modest { IsModest (term_of right) }
-    ensures { OnOk result (map edge_of out.new.items ≡ map edge_of out.old.items ++ test_edges (tests.Both (tests.Guard (term_of left) (term_of right)) (tests.Guard (term_of right) (term_of left))) from own hit miss) }
+    ensures { OnOk result (map edge_of out.new.items ≡ map edge_of out.old.items ++ test_edges
+        (tests.Both (tests.Guard (term_of left) (term_of right)) (tests.Guard (term_of right) (term_of left))) from own
+        hit miss) }
 {
     guard_edges(out, from, left, right, Some(own), miss)?;
     guard_edges(out, own, right, left, hit, miss)
@@ -80,7 +83,8 @@ fn atom_edges(
 ) -> Result<(), NoMemory>
     requires left_modest { IsModest (term_of left) }
     requires right_modest { IsModest (term_of right) }
-    ensures { OnOk result (map edge_of out.new.items ≡ map edge_of out.old.items ++ test_edges (tests.comparison (cmp_of cmp) (term_of left) (term_of right)) from own hit miss) }
+    ensures { OnOk result (map edge_of out.new.items ≡ map edge_of out.old.items ++ test_edges
+        (tests.comparison (cmp_of cmp) (term_of left) (term_of right)) from own hit miss) }
 {
     match cmp {
         Cmp::Le => guard_edges(out, from, left, right, hit, miss),
@@ -103,7 +107,8 @@ pub(crate) fn cond_edges(
 ) -> Result<u32, NoMemory>
     requires modest { EachTerm IsModest cond.now }
     requires fits { own + inner (test cond.now) < 2 ^ 32 }
-    ensures edges { OnOk result (map edge_of out.new.items ≡ map edge_of out.old.items ++ test_edges (test cond.now) from own hit miss) }
+    ensures edges { OnOk result (map edge_of out.new.items ≡ map edge_of out.old.items ++ test_edges (test cond.now)
+        from own hit miss) }
     ensures next { IfOk result (λ after. after ≡ own + inner (test cond.now)) }
 {
     match &cond.shape {

@@ -14,9 +14,9 @@ use Rattle.prog_theory.specs.Within.{IsClaim, IsNumberWithin}
 use Rattle.prog_theory.specs.Numbering.{count, counts}
 use Rattle.prog_theory.specs.Atoms.{cond_atoms, stmt_atoms, block_atoms}
 use Rattle.prog_texts.specs.Words.{Before, nothing_before, is_asking}
-use Rattle.prog_texts.specs.Inks.{Ink, Says, Blank, Feed, name_text}
+use Rattle.prog_texts.specs.Inks.{Ink, Says, Name, Blank, Feed, name_text}
 use Rattle.prog_texts.specs.Printed.{term_inks, cond_inks, claim_inks, indent, closing, else_inks, stmt_inks, block_inks, names_inks, program_inks}
-use Rattle.prog_print.proofs.Walks.{Edge, Apart, Wordy, edge_of_word, IsToken, Walks, walks_more, walks_as, after}
+use Rattle.prog_print.proofs.Walks.{Edge, Apart, Wordy, edge_of_word, IsToken, IsSound, Walks, walks_more, walks_as, after}
 use Rattle.prog_print.proofs.PlainTexts.{name_plain, name_word, word_digits, plain_unasked, some_statement, itself, chained, plus_none, chained_plus}
 use Rattle.prog_print.proofs.WalkedTerms.{IsQuiet, IsSolid, Done, blank_follows, solid_follows, name_sound, unasked_walks, cond_walks, claim_walks}
 
@@ -142,6 +142,11 @@ module _ (bound : ℕ) (small : bound < 2 ^ 64) (names : List (List ℕ)) (are :
   abbrev opened : List Ink → List Ink
   opened is = Blank ∷ Says (codes "{") ∷ Feed ∷ is
 
+  -- a word at the begin of a line, and a blank
+  worded : (P : Before → Edge → Type 0) (w : List ℕ) (js : List Ink) (b : Before) → IsSound bound names (Says w) →
+      W (after b w) Apart js P → W b Apart (Says w ∷ Blank ∷ js) P
+  worded P w js b s h = (refl, s, (blank_follows (edge_of_word w), tt, h))
+
   opened_walks : (P : Before → Edge → Type 0) (js : List Ink) (d : Before) (f : Edge) →
       W (after d (codes "{")) Apart js P → W d f (opened js) P
   opened_walks P js d f h = (blank_follows f, tt, (refl, (left_alone, refl), (refl, tt, h)))
@@ -222,85 +227,56 @@ module _ (bound : ℕ) (small : bound < 2 ^ 64) (names : List (List ℕ)) (are :
         let p = name_plain w s.0 in
         let c = after b (codes "havoc") in
         let st = p.statements c refl in
-        let at = plain_unasked w c p refl in (
+        let at = plain_unasked w c p refl in
+        worded (Ended b 1 0) (codes "havoc") (Name i ∷ Says (codes ";") ∷ Feed ∷ []) b (refl, refl) (
           refl,
-          (refl, refl),
-          (
-            refl,
-            tt,
-            (
-              refl,
-              s,
-              line_ends b (after c w) (after c w) Wordy 1 0 0 0
-                  (record {
-                    quiet = record { fresh = p.fresh; asking = p.asking };
-                    solid = tt;
-                    statements = itself (after c w).statements;
-                    atoms = plus_none _ _ (itself (after c w).atoms);
-                  }) st (plus_none _ _ at) (omega arith),
-            ),
-          ),
+          s,
+          line_ends b (after c w) (after c w) Wordy 1 0 0 0
+              (record {
+                quiet = record { fresh = p.fresh; asking = p.asking };
+                solid = tt;
+                statements = itself (after c w).statements;
+                atoms = plus_none _ _ (itself (after c w).atoms);
+              }) st (plus_none _ _ at) (omega arith),
         )
     stmt_walks n (Assume x) b fits within sides rest =
-        let c = after b (codes "assume") in (
-          refl,
-          (refl, refl),
-          (
-            refl,
-            tt,
-            walks_more bound names (Ended b 1 (cond_atoms x)) (Done c (cond_atoms x)) (cond_inks Loose x)
-                (Says (codes ";") ∷ Feed ∷ []) c Apart (cond_walks bound small names are Loose x c Apart fits within
-                refl tt)
-                (λ d f h. line_ends b c d f 1 0 (cond_atoms x) (cond_atoms x) h (itself (b.statements + 1))
-                (plus_none _ _ (itself b.atoms)) (omega arith)),
-          ),
-        )
+        let c = after b (codes "assume") in
+        let end : List Ink = Says (codes ";") ∷ Feed ∷ [] in
+        worded (Ended b 1 (cond_atoms x)) (codes "assume") (cond_inks Loose x ++ end) b (refl, refl)
+        (walks_more bound names (Ended b 1 (cond_atoms x)) (Done c (cond_atoms x)) (cond_inks Loose x) end c Apart
+        (cond_walks bound small names are Loose x c Apart fits within refl tt)
+        (λ d f h. line_ends b c d f 1 0 (cond_atoms x) (cond_atoms x) h (itself (b.statements + 1))
+        (plus_none _ _ (itself b.atoms)) (omega arith)))
     stmt_walks n (Assert x) b fits within sides rest =
-        let c = after b (codes "assert") in (
-          refl,
-          (refl, refl),
-          (
-            refl,
-            tt,
-            walks_more bound names (Ended b 1 0) (Done c 0) (claim_inks x) (Says (codes ";") ∷ Feed ∷ []) c Apart
-                (claim_walks bound small names are x c sides fits.0 fits.1 within.0 within.1 refl refl)
-                (λ d f h. line_ends b c d f 1 0 0 0 h (itself (b.statements + 1)) (plus_none _ _ (itself b.atoms))
-                (omega arith)),
-          ),
-        )
+        let c = after b (codes "assert") in
+        let end : List Ink = Says (codes ";") ∷ Feed ∷ [] in
+        worded (Ended b 1 0) (codes "assert") (claim_inks x ++ end) b (refl, refl)
+        (walks_more bound names (Ended b 1 0) (Done c 0) (claim_inks x) end c Apart
+        (claim_walks bound small names are x c sides fits.0 fits.1 within.0 within.1 refl refl)
+        (λ d f h. line_ends b c d f 1 0 0 0 h (itself (b.statements + 1)) (plus_none _ _ (itself b.atoms))
+        (omega arith)))
     stmt_walks n (If x a y) b fits within sides rest =
-        let c = after b (codes "if") in (
-          refl,
-          (refl, refl),
-          (
-            refl,
-            tt,
-            walks_more bound names (Ended b (1 + counts a + counts y) (cond_atoms x + block_atoms a + block_atoms y))
-                (Done c (cond_atoms x)) (cond_inks Loose x)
-                (opened (block_inks (suc n) a ++ (else_inks n y (block_inks (suc n) y) ++ (indent n ++ closing)))) c
-                Apart
-                (cond_walks bound small names are Loose x c Apart fits.0 within.0 refl tt)
-                (λ d f h. if_walks n a y (λ v r. block_walks (suc n) a v fits.1 within.1 sides.0 r)
-                (λ v r. block_walks (suc n) y v fits.2 within.2 sides.1 r) b c d f (cond_atoms x) h (itself
-                (b.statements + 1))
-                (itself b.atoms)),
-          ),
-        )
+        let c = after b (codes "if") in
+        let K = 1 + counts a + counts y in
+        let M = cond_atoms x + block_atoms a + block_atoms y in
+        let blocks : List Ink =
+        opened (block_inks (suc n) a ++ (else_inks n y (block_inks (suc n) y) ++ (indent n ++ closing))) in
+        worded (Ended b K M) (codes "if") (cond_inks Loose x ++ blocks) b (refl, refl)
+        (walks_more bound names (Ended b K M) (Done c (cond_atoms x)) (cond_inks Loose x) blocks c Apart
+        (cond_walks bound small names are Loose x c Apart fits.0 within.0 refl tt)
+        (λ d f h. if_walks n a y (λ v r. block_walks (suc n) a v fits.1 within.1 sides.0 r)
+        (λ v r. block_walks (suc n) y v fits.2 within.2 sides.1 r) b c d f (cond_atoms x) h
+        (itself (b.statements + 1)) (itself b.atoms)))
     stmt_walks n (While x a) b fits within sides rest =
-        let c = after b (codes "while") in (
-          refl,
-          (refl, refl),
-          (
-            refl,
-            tt,
-            walks_more bound names (Ended b (1 + counts a) (cond_atoms x + block_atoms a)) (Done c (cond_atoms x))
-                (cond_inks Loose x) (opened (block_inks (suc n) a ++ (indent n ++ closing))) c Apart
-                (cond_walks bound small names are Loose x c Apart fits.0 within.0 refl tt)
-                (λ d f h. while_walks n a (λ v r. block_walks (suc n) a v fits.1 within.1 sides r) b c d f (cond_atoms
-                x) h
-                (itself (b.statements + 1)) (itself b.atoms)),
-          ),
-        )
+        let c = after b (codes "while") in
+        let K = 1 + counts a in
+        let M = cond_atoms x + block_atoms a in
+        let body : List Ink = opened (block_inks (suc n) a ++ (indent n ++ closing)) in
+        worded (Ended b K M) (codes "while") (cond_inks Loose x ++ body) b (refl, refl)
+        (walks_more bound names (Ended b K M) (Done c (cond_atoms x)) (cond_inks Loose x) body c Apart
+        (cond_walks bound small names are Loose x c Apart fits.0 within.0 refl tt)
+        (λ d f h. while_walks n a (λ v r. block_walks (suc n) a v fits.1 within.1 sides r) b c d f (cond_atoms x) h
+        (itself (b.statements + 1)) (itself b.atoms)))
     stmt_walks n Skip b fits within sides rest =
         let c = after b (codes "skip") in (
           refl,

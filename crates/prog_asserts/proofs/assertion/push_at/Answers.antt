@@ -7,4 +7,5 @@ pub returns-in-None : goal.returns-in-None
 returns-in-None c =
     sym (append-nil (assertions c.args.out.now.items))
     ∙ ap (λ l. assertions c.args.out.now.items ++ l)
-    (sym (none_here c.args.p c.in-Statement.k c.args.point.now c.args.stmts.now c.in-Statement.is c.in-None.ensures.lookup.3))
+    (sym (none_here c.args.p c.in-Statement.k c.args.point.now c.args.stmts.now c.in-Statement.is
+    c.in-None.ensures.lookup.3))

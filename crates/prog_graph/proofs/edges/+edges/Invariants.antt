@@ -9,7 +9,8 @@ use Rattle.prog_graph.proofs.edges.+edges.Given as goal
 
 abbrev pub invariant-block_edges-loop-i : goal.invariant-block_edges-loop-i
 invariant-block_edges-loop-i l = record {
-  edges : map edge_of l.out.items ++ edges_bl l.at (block_of (drop l.i l.st-items)) l.next ≡ map edge_of l.fn.out.items ++ edges_bl l.point l.block l.next;
+  edges : map edge_of l.out.items ++ edges_bl l.at (block_of (drop l.i l.st-items)) l.next ≡ map edge_of l.fn.out.items
+      ++ edges_bl l.point l.block l.next;
   fits : l.at + widths (block_of (drop l.i l.st-items)) ≡ l.point + widths l.block;
   modest : EachBlock IsAnything IsModest (block_of (drop l.i l.st-items));
   number : l.count ≡ length l.st-items;

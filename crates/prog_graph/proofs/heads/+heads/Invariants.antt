@@ -6,6 +6,7 @@ use Rattle.prog_graph.proofs.heads.+heads.Given as goal
 
 abbrev pub invariant-block_heads-loop-st : goal.invariant-block_heads-loop-st
 invariant-block_heads-loop-st l = record {
-  heads : l.out.items ++ heads_bl l.at (block_of (drop l.st-index l.st-items)) ≡ l.fn.out.items ++ heads_bl l.point l.block;
+  heads : l.out.items ++ heads_bl l.at (block_of (drop l.st-index l.st-items)) ≡ l.fn.out.items ++ heads_bl l.point
+      l.block;
   fits : l.at + widths (block_of (drop l.st-index l.st-items)) ≡ l.point + widths l.block;
 }

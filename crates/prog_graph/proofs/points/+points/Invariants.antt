@@ -8,7 +8,8 @@ use Rattle.prog_graph.proofs.points.+points.Given as goal
 
 abbrev pub invariant-block_points-loop-st : goal.invariant-block_points-loop-st
 invariant-block_points-loop-st l = record {
-  points : map point_of l.out.items ++ points_bl l.next (block_of (drop l.st-index l.st-items)) ≡ map point_of l.fn.out.items ++ points_bl l.number l.block;
+  points : map point_of l.out.items ++ points_bl l.next (block_of (drop l.st-index l.st-items)) ≡ map point_of
+      l.fn.out.items ++ points_bl l.number l.block;
   numbers : l.next + counts (block_of (drop l.st-index l.st-items)) ≡ l.number + counts l.block;
   fits : widths (block_of (drop l.st-index l.st-items)) < 2 ^ 32;
 }
