@@ -1,109 +1,79 @@
-//! The double description. Coordinate 0 is that of constants; then come x and y.
-ghost use Rattle.std.specs.Prelude.{◌≡◌, ◌≤◌, ◌∷◌, [], ◌^◌, IfOk, length};
-ghost use Rattle.trop_theory.specs.Vectors.{row_size};
-ghost use Rattle.trop_theory.specs.Inequalities.{IsIn, inequality_size, system_size};
+//! The double description.
+ghost use Rattle.std.specs.Prelude.{◌≤◌, IfOk};
+ghost use Rattle.trop_theory.specs.Inequalities.{IsIn, inequality_size};
+ghost use Rattle.trop_scalar.specs.MaxPlus.{max_ring};
 
-use crate::common::{element, same, shown, span};
-use std::alloc::{AllocError, Global};
+use row_examples::{inequality_of, rows_text, same_text, span_text, system_of};
+use std::alloc::Global;
 use std::test::Fail;
 use trop_dd::{Dd, DdErr, equal_rows_are_equal_solutions, extreme_rows};
 use trop_hyper::Looks;
-use trop_row::{Ineq, Row, System};
+use trop_row::Ineq;
 use trop_scalar::{Flag, MaxInt, MinInt, Scalar};
 
-const O: bool = false;
-
-const I: bool = true;
-
-// What is the one there is written `I`, the zero `O`.
-fn row<S: Scalar>(alloc: Global, flags: [bool; 3]) -> Result<Row<S>, AllocError>
-    ensures len { IfOk result (λ row. length row ≡ 3) }
-    ensures size { IfOk result (λ row. row_size S.ring row ≤ 0) }
-{
-    let [a, b, c] = flags;
-    let mut entries = Vec::new(alloc);
-    entries.push(element::<S>(a))?;
-    entries.push(element::<S>(b))?;
-    entries.push(element::<S>(c))?;
-    Row::from_entries(alloc, entries.as_slice())
-}
-
 // x at most y.
-fn x_below_y<S: Scalar>(alloc: Global) -> Result<Ineq<S>, AllocError>
-    ensures sides { IfOk result (IsIn 3) }
-    ensures size { IfOk result (λ p. inequality_size S.ring p ≤ 0) }
-{
-    Ok(Ineq::new(row(alloc, [O, I, O])?, row(alloc, [O, O, I])?))
-}
+const X_BELOW_Y: &str = ". 0 . < . . 0";
 
 // The rows of x at most y: two rays and a point.
-const SORTED_PAIRS: &str = " - - 0; - 0 0; 0 - -;";
+const SORTED_PAIRS: &str = ". . 0, . 0 0, 0 . .";
 
-// That the system of x at most y alone has these rows, pushed and converted; a failure with what came, where not.
-fn converts<S: Scalar>(alloc: Global) -> Result<bool, Fail> {
-    equal_rows_are_equal_solutions::<S>();
+// That the system of x at most y alone, pushed, has these rows, and that looks were counted.
+fn pushes<S: Scalar>(alloc: Global) -> Result<(), Fail> {
+    let ineq = inequality_of::<S>(alloc, 3, X_BELOW_Y)?;
     let mut looks = Looks::new();
     let mut dd = Dd::<S>::new(alloc, 3)?;
-    dd.push(alloc, x_below_y(alloc)?, &mut looks)
-        .map_err(|_| "not pushed")?;
-    let count = looks.count();
-    let mut system = System::<S>::new(alloc, 3);
-    system.push(x_below_y(alloc)?)?;
+    dd.push(alloc, ineq, &mut looks).map_err(|_| "not pushed")?;
+    let got = format!(in alloc;
+        "{}; {} inequality, looks {}",
+        rows_text(alloc, dd.rows())?,
+        dd.system().len(),
+        looks.count() > 0
+    )?;
+    let wanted = format!(in alloc; "{SORTED_PAIRS}; 1 inequality, looks true")?;
+    same_text(alloc, "pushed", wanted.as_str(), got.as_str())?;
+    let rows = dd.into_rows();
+    let got = rows_text(alloc, &rows)?;
+    same_text(alloc, "taken out", SORTED_PAIRS, got.as_str())
+}
+
+// The same of the system converted.
+fn converts<S: Scalar>(alloc: Global) -> Result<(), Fail> {
+    let system = system_of::<S>(alloc, 3, X_BELOW_Y)?;
+    let mut looks = Looks::new();
     let rows = extreme_rows(alloc, &system, &mut looks).map_err(|_| "not converted")?;
-    let pushed = shown(alloc, dd.rows())?;
-    let counted = format!(in alloc; "{} inequality, looks {}", dd.system().len(), count > 0)?;
-    Ok(
-        same(alloc, "pushed", SORTED_PAIRS, pushed.as_str())?
-            && same(
-                alloc,
-                "converted",
-                SORTED_PAIRS,
-                shown(alloc, &rows)?.as_str(),
-            )?
-            && same(
-                alloc,
-                "counted",
-                "1 inequality, looks true",
-                counted.as_str(),
-            )?
-            && same(
-                alloc,
-                "taken out",
-                SORTED_PAIRS,
-                shown(alloc, &dd.into_rows())?.as_str(),
-            )?,
-    )
+    let got = rows_text(alloc, &rows)?;
+    same_text(alloc, "converted", SORTED_PAIRS, got.as_str())
 }
 
 #[test]
 fn sorted_pairs_in_each_semiring(rt: HostRuntime) -> Result<(), Fail> {
     let alloc = rt.alloc();
-    assert!(rt; converts::<MaxInt>(alloc)?);
-    assert!(rt; converts::<MinInt>(alloc)?);
-    assert!(rt; converts::<Flag>(alloc)?);
+    pushes::<MaxInt>(alloc)?;
+    pushes::<MinInt>(alloc)?;
+    pushes::<Flag>(alloc)?;
+    converts::<MaxInt>(alloc)?;
+    converts::<MinInt>(alloc)?;
+    converts::<Flag>(alloc)?;
     Ok(())
 }
 
-// The row in 32 coordinates with the one from `low` to before `high` and the zero elsewhere.
-fn group<S: Scalar>(alloc: Global, low: u32, high: u32) -> Result<Row<S>, AllocError>
-    ensures len { IfOk result (λ row. length row ≡ 32) }
-    ensures size { IfOk result (λ row. row_size S.ring row ≤ 0) }
-{
-    let entries = span::<S>(alloc, 32, low, high, true)?;
-    Row::from_entries(alloc, entries.as_slice())
+#[test]
+fn laws_at_a_semiring(_rt: HostRuntime) -> Result<(), Fail> {
+    equal_rows_are_equal_solutions::<MaxInt>();
+    equal_rows_are_equal_solutions::<MinInt>();
+    equal_rows_are_equal_solutions::<Flag>();
+    Ok(())
 }
 
-// The greatest coordinate from `low` to before `middle` is at most the greatest from there to before `high`.
-fn group_below<S: Scalar>(
-    alloc: Global,
-    low: u32,
-    middle: u32,
-    high: u32,
-) -> Result<Ineq<S>, AllocError>
+// In 32 coordinates: the greatest from `low` to before `middle` is at most the greatest from there to before `high`.
+fn group_below(alloc: Global, low: u32, middle: u32, high: u32) -> Result<Ineq<MaxInt>, Fail>
     ensures sides { IfOk result (IsIn 32) }
-    ensures size { IfOk result (λ p. inequality_size S.ring p ≤ 0) }
+    ensures size { IfOk result (λ p. inequality_size max_ring p ≤ 65535) }
 {
-    Ok(Ineq::new(group(alloc, low, middle)?, group(alloc, middle, high)?))
+    let left = span_text(alloc, 32, low, middle)?;
+    let right = span_text(alloc, 32, middle, high)?;
+    let text = format!(in alloc; "{left} < {right}")?;
+    inequality_of(alloc, 32, text.as_str())
 }
 
 // Groups of 6, 6, 6, 6 and 7 coordinates: the fourth inequality is refused, and the three before it stay with their
@@ -118,8 +88,7 @@ fn refused_push_leaves_all(rt: HostRuntime) -> Result<(), Fail> {
     dd.push(alloc, group_below(alloc, 13, 19, 25)?, &mut looks)?;
     assert_eq!(rt; dd.rows().len(), 1562);
     let refused = dd.push(alloc, group_below(alloc, 19, 25, 32)?, &mut looks);
-    assert!(rt; refused == Err(DdErr::Limit(4)));
-    assert_eq!(rt; dd.rows().len(), 1562);
-    assert_eq!(rt; dd.system().len(), 3);
+    assert_eq!(rt; refused, Err(DdErr::Limit(4)));
+    assert_eq!(rt; (dd.rows().len(), dd.system().len()), (1562, 3));
     Ok(())
 }

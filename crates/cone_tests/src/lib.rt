@@ -1,17 +1,8 @@
-//! Worked examples of elements, rows, hypergraphs, types and the double description, in each of the three semirings.
-//! Expected
-//! answers were computed by hand.
+//! Worked examples of types and of the double description, in each of the three semirings. Coordinate 0 is that of
+//! constants; then come x, y and z. What is wanted was worked out by hand.
 #![tactic(auto)]
 
 #[cfg(test)]
-mod common;
-#[cfg(test)]
 mod descriptions;
-#[cfg(test)]
-mod elements;
-#[cfg(test)]
-mod hypergraphs;
-#[cfg(test)]
-mod rows;
 #[cfg(test)]
 mod tangents;

@@ -1,91 +1,114 @@
 //! Cones over the limit of rows, and the texts of errors.
-ghost use Rattle.std.specs.Prelude.{◌≡◌, ◌+◌, ◌^◌, ◌<◌, ◌≤◌, IfOk, OnOk, length};
+ghost use Rattle.std.specs.Prelude.{◌≡◌, ◌≤◌, IfOk};
 ghost use Rattle.trop_theory.specs.Vectors.{rows_size};
 ghost use Rattle.trop_scalar.specs.MaxPlus.{max_ring};
 
-use crate::cones::{O, row, same_text};
+use crate::cones::cone;
+use row_examples::same_text;
 use std::alloc::{AllocError, Global};
 use std::test::Fail;
 use trop_dd::DdErr;
 use trop_guard::GuardErr;
 use trop_lean::LeanErr;
 use trop_poly::{Poly, PolyErr};
-use trop_row::Gens;
 use trop_scalar::MaxInt;
 
-type NoMemory = AllocError;
-
-// Puts the point (number, -number) behind the rows.
-fn push_stair(alloc: Global, gens: &mut Gens<MaxInt>, number: i16) -> Result<(), NoMemory>
-    requires width { gens.old.n ≡ 4 }
-    requires room { length gens.old.rows < 2 ^ 31 }
-    requires size { rows_size max_ring gens.old.rows ≤ 32767 }
-    ensures width { gens.new.n ≡ 4 }
-    ensures len { OnOk result (length gens.new.rows ≡ length gens.old.rows + 1) }
-    ensures size { OnOk result (rows_size max_ring gens.new.rows ≤ 32767) }
-{
-    let point = row(alloc, [0, number, number.wrapping_neg(), O])?;
-    gens.push(point)?;
-    Ok(())
-}
-
-// The points of so many numbers from `low` on: none of them is a combination of others.
-fn stairs(alloc: Global, low: i16, count: u16) -> Result<Poly<MaxInt>, PolyErr>
+// The points (k, -k) for the numbers from `low` to before `high`: none of them is a combination of others.
+fn stairs(alloc: Global, low: u32, high: u32) -> Result<Poly<MaxInt>, Fail>
     ensures width { IfOk result (λ cone. cone.n ≡ 4) }
-    ensures size { IfOk result (λ cone. rows_size max_ring cone.rows ≤ 65534) }
+    ensures size { IfOk result (λ cone. rows_size max_ring cone.rows ≤ 131070) }
 {
-    let mut gens = Gens::new(alloc, 4);
-    let mut number = low;
-    for _k in 0..count {
-        push_stair(alloc, &mut gens, number)?;
-        number = number.wrapping_add(1);
+    let mut text = String::new(alloc);
+    for k in low..high {
+        let point = format!(in alloc; "0 {k} -{k} ., ")?;
+        text.push_str(point.as_str())?;
     }
-    Poly::from_gens(alloc, &gens)
+    cone(alloc, text.as_str())
 }
 
-// 4,096 rows are within the limit, and one more is not.
+// How the join with the points of the numbers from 2,000 to before `high` ends.
+fn join_at_end(alloc: Global, first: &Poly<MaxInt>, high: u32) -> Result<String, Fail>
+    requires width { first.now.n ≡ 4 }
+    requires size { rows_size max_ring first.now.rows ≤ 131070 }
+{
+    let second = stairs(alloc, 2_000, high)?;
+    Ok(match first.join(alloc, &second) {
+        Ok(joined) => format!(in alloc; "{} rows", joined.rows().len())?,
+        Err(err) => format!(in alloc; "{err}")?,
+    })
+}
+
 #[test]
 fn joins_at_the_limit(rt: HostRuntime) -> Result<(), Fail> {
     let alloc = rt.alloc();
     let first = stairs(alloc, 0, 2_000)?;
-    let fits = first.join(alloc, &stairs(alloc, 2_000, 2_096)?)?;
-    assert_eq!(rt; fits.rows().len(), 4_096);
-    let over = first.join(alloc, &stairs(alloc, 2_000, 2_097)?);
-    assert!(rt; over.err() == Some(PolyErr::Rows(0)));
-    Ok(())
+    let got = join_at_end(alloc, &first, 4_096)?;
+    same_text(alloc, "as many as may be", "4096 rows", got.as_str())?;
+    let over = "with 0 inequalities there are more than 4096 extreme rows";
+    let got = join_at_end(alloc, &first, 4_097)?;
+    same_text(alloc, "one more", over, got.as_str())
+}
+
+fn poly_text(alloc: Global, err: PolyErr) -> Result<String, AllocError> {
+    format!(in alloc; "{err}")
+}
+
+fn guard_text(alloc: Global, err: GuardErr) -> Result<String, AllocError> {
+    format!(in alloc; "{err}")
+}
+
+fn dd_text(alloc: Global, err: DdErr) -> Result<String, AllocError> {
+    format!(in alloc; "{err}")
+}
+
+fn lean_text(alloc: Global, err: LeanErr) -> Result<String, AllocError> {
+    format!(in alloc; "{err}")
+}
+
+// Rows, and rows that an external list meets on its way.
+#[test]
+fn texts_of_errors_of_cones(rt: HostRuntime) -> Result<(), Fail> {
+    let alloc = rt.alloc();
+    let got = poly_text(alloc, PolyErr::Rows(3))?;
+    let rows = "with 3 inequalities there are more than 4096 extreme rows";
+    same_text(alloc, "a cone over the limit", rows, got.as_str())?;
+    let got = poly_text(alloc, PolyErr::Polar(2, 17))?;
+    let polar = "the external list stops at coordinate 2 with 17 rows";
+    same_text(alloc, "an external list", polar, got.as_str())?;
+    let got = poly_text(alloc, PolyErr::NoMemory)?;
+    same_text(alloc, "a cone", "no memory", got.as_str())
 }
 
 #[test]
-fn texts_of_errors(rt: HostRuntime) -> Result<(), Fail> {
+fn texts_of_errors_of_guards(rt: HostRuntime) -> Result<(), Fail> {
     let alloc = rt.alloc();
-    let texts = [
-        (
-            format!(in alloc; "{}", PolyErr::Rows(3))?,
-            "with 3 inequalities there are more than 4096 extreme rows",
-        ),
-        (
-            format!(in alloc; "{}", PolyErr::Polar(2, 17))?,
-            "the external list stops at coordinate 2 with 17 rows",
-        ),
-        (format!(in alloc; "{}", PolyErr::NoMemory)?, "no memory"),
-        (
-            format!(in alloc; "{}", GuardErr::Limit)?,
-            "more than 4096 extreme rows",
-        ),
-        (format!(in alloc; "{}", GuardErr::NoMemory)?, "no memory"),
-        (
-            format!(in alloc; "{}", DdErr::Limit(4))?,
-            "the first 4 inequalities have more than 4096 extreme rows",
-        ),
-        (format!(in alloc; "{}", DdErr::NoMemory)?, "no memory"),
-        (
-            format!(in alloc; "{}", LeanErr::Rows(2, 3))?,
-            "at turn 2 the first 3 inequalities have more than 4096 extreme rows",
-        ),
-        (format!(in alloc; "{}", LeanErr::NoMemory)?, "no memory"),
-    ];
-    for (got, wanted) in &texts {
-        assert!(rt; same_text(alloc, wanted, got.as_str())?);
-    }
-    Ok(())
+    let got = guard_text(alloc, GuardErr::Limit)?;
+    same_text(
+        alloc,
+        "a guard over the limit",
+        "more than 4096 extreme rows",
+        got.as_str(),
+    )?;
+    let got = guard_text(alloc, GuardErr::NoMemory)?;
+    same_text(alloc, "a guard", "no memory", got.as_str())
+}
+
+#[test]
+fn texts_of_errors_of_descriptions(rt: HostRuntime) -> Result<(), Fail> {
+    let alloc = rt.alloc();
+    let got = dd_text(alloc, DdErr::Limit(4))?;
+    let limit = "the first 4 inequalities have more than 4096 extreme rows";
+    same_text(alloc, "a description over the limit", limit, got.as_str())?;
+    let got = dd_text(alloc, DdErr::NoMemory)?;
+    same_text(alloc, "a description", "no memory", got.as_str())
+}
+
+#[test]
+fn texts_of_errors_of_lean_lists(rt: HostRuntime) -> Result<(), Fail> {
+    let alloc = rt.alloc();
+    let got = lean_text(alloc, LeanErr::Rows(2, 3))?;
+    let rows = "at turn 2 the first 3 inequalities have more than 4096 extreme rows";
+    same_text(alloc, "a turn over the limit", rows, got.as_str())?;
+    let got = lean_text(alloc, LeanErr::NoMemory)?;
+    same_text(alloc, "a lean list", "no memory", got.as_str())
 }

@@ -1,7 +1,9 @@
-//! Tables of the text crates that files are read and printed by: tokens, faults, elements, parts of lines, and files.
+//! Tables of tokens with their places, of names, of digits and of the texts of faults.
 //!
 //! What is wanted is written by hand from the formats, never copied from a run.
 #![tactic(auto)]
 
 #[cfg(test)]
-mod tests;
+mod faults;
+#[cfg(test)]
+mod tokens;

@@ -1,5 +1,0 @@
-//! One file a layer, lowest first.
-mod elements;
-mod files;
-mod parts;
-mod tokens;
