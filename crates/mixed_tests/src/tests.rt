@@ -1,5 +1,6 @@
 // Short reports over variables and their opposites; what is wanted was worked by hand.
-use std::alloc::Global;
+use mixed_print::MixedErr;
+use std::alloc::{AllocError, Global};
 use std::test::Fail;
 use tplib_mixed::mixed_reply;
 use tplib_reply::Refusal;
@@ -174,5 +175,26 @@ fn short_reports(rt: HostRuntime) -> Result<(), Fail> {
         }
     }
     assert!(rt; !failed);
+    Ok(())
+}
+
+fn text_of(alloc: Global, err: MixedErr) -> Result<String, AllocError> {
+    format!(in alloc; "{err}")
+}
+
+// What is said where there is no short report.
+#[test]
+fn texts_of_errors(rt: HostRuntime) -> Result<(), Fail> {
+    let alloc = rt.alloc();
+    for (err, wanted) in [
+        (
+            MixedErr::Polar(2, 1, 17),
+            "the external list of point 2 stops at coordinate 1 with 17 rows",
+        ),
+        (MixedErr::NoMemory, "no memory"),
+    ] {
+        let got = text_of(alloc, err)?;
+        assert_eq!(rt; got.as_str(), wanted);
+    }
     Ok(())
 }

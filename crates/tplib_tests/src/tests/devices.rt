@@ -308,15 +308,19 @@ fn devices_that_fail_together(rt: HostRuntime) -> Result<(), Fail> {
     Ok(())
 }
 
+// What is said of an input that is longer than an input may be.
+const TOO_LONG: &str = "tplib: input longer than 4194304 bytes\n";
+
 // The longest input, a comment at its end, and one byte more.
 #[test]
 fn inputs_up_to_4194304_bytes(rt: HostRuntime) -> Result<(), Fail> {
     let alloc = rt.alloc();
-    let words = split(alloc, "reduce")?;
-    for (length, code, out, err) in [
-        (4_194_304, 0, REDUCED, ""),
-        (4_194_305, 3, "", "tplib: input longer than 4194304 bytes\n"),
+    for (command, length, code, out, err) in [
+        ("reduce", 4_194_304, 0, REDUCED, ""),
+        ("reduce", 4_194_305, 3, "", TOO_LONG),
+        ("ext", 4_194_305, 3, "", TOO_LONG),
     ] {
+        let words = split(alloc, command)?;
         let mut bytes = Vec::from_slice(alloc, POINTS.as_bytes())?;
         bytes.resize(length, b'#')?;
         let mut input = MemSource::new(bytes, 1_048_576, Vec::new(alloc));
