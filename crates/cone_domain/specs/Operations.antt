@@ -1,4 +1,5 @@
--- What the operations on cones give.
+-- What the operations on cones give. X. Allamigeon, S. Gaubert, E. Goubault: Inferring min and max invariants using
+-- max-plus polyhedra (2008).
 use Rattle.std.specs.Prelude.{◌≡◌, ◌⊎◌, ◌≤◌, Bool, List, length, Some, None}
 use Rattle.trop_theory.specs.Semiring.{Semiring}
 use Rattle.trop_theory.specs.Numbers.{Numbering}

@@ -53,7 +53,8 @@ pub(crate) fn doubled(made: Result<PolyDomain<MaxInt>, DomErr>) -> Result<MixedD
 }
 
 impl MixedDomain {
-    /// The cone, in the coordinates of the variables and of their opposites.
+    /// The cone, in the coordinates of the variables and of their opposites. Its rows generate it and are canonical, at
+    /// most 4,096, of numbers up to 2^40.
     pub fn poly(&self) -> &Poly<MaxInt>
         ensures width { result.now.n ≡ suc self.now.vars }
         ensures rows { result.now.rows ≡ self.now.rows }

@@ -27,9 +27,10 @@ type NoMemory = AllocError;
 // The width of a value without a kept list: more than any list is long.
 const GREATEST_WIDTH: u64 = 4097;
 
-/// A tropical polyhedron: a cone in one coordinate more than there are variables, whose numbers have size at most 2^40,
-/// and from the first widening on the kept list, at most 4,096 inequalities of size at most 2^48 whose solutions are
-/// the cone. Contracts see the number of variables, the canonical list of the cone and the kept list.
+/// A tropical polyhedron (Allamigeon, Gaubert, Goubault, Inferring min and max invariants using max-plus polyhedra,
+/// 2008): a cone in one coordinate more than there are variables, whose numbers have size at most 2^40, and from the
+/// first widening on the kept list, at most 4,096 inequalities of size at most 2^48 whose solutions are the cone.
+/// Contracts see the number of variables, the canonical list of the cone and the kept list.
 #[derive(Drop)]
 pub struct PolyDomain<S: Numeric> {
     pub(crate) cone: Poly<S>,
@@ -75,7 +76,7 @@ impl<S: Numeric> PolyDomain<S> {
         }
     }
 
-    /// The cone.
+    /// The cone. Its rows generate it and are canonical, at most 4,096, of numbers up to 2^40.
     pub fn poly(&self) -> &Poly<S>
         ensures width { result.now.n ≡ suc self.now.vars }
         ensures rows { result.now.rows ≡ self.now.rows }

@@ -19,10 +19,10 @@ use zone_tables::{Table, bound_at, count_numbers, has_large, is_stronger};
 
 type NoMemory = AllocError;
 
-/// A zone over a number of variables: the empty one, or the states whose differences keep the bounds of a closed
-/// matrix, each number of size at most 2^40; and from the first widening on the bounds that were kept. Coordinate 0 has
-/// the value 0, and coordinate i from 1 on is the i-th variable. Contracts see the number of variables and the two
-/// matrices.
+/// A zone over a number of variables (Miné, A new numerical abstract domain based on difference-bound matrices, 2001):
+/// the empty one, or the states whose differences keep the bounds of a closed matrix, each number of size at most 2^40;
+/// and from the first widening on the bounds that were kept. Coordinate 0 has the value 0, and coordinate i from 1 on
+/// is the i-th variable. Contracts see the number of variables and the two matrices.
 #[derive(Drop)]
 pub struct ZoneDomain {
     pub(crate) vars: u32,

@@ -83,8 +83,9 @@ fn verdict_on<S: Numeric>(alloc: Global, report: &Report<S>) -> Result<Verdict<S
     }
 }
 
-/// Checks the report, by means of its own: that it is inductive, or the first condition that fails. A report has one
-/// verdict, and what an inductive report says is true at every visit of every run of its program, whoever wrote it.
+/// Checks the report by its rows alone, with no analysis: that it is inductive, or the first condition that fails. A
+/// report has one verdict, and what an inductive report says is true at every visit of every run of its program,
+/// whoever wrote it; of a claim, where its words suit the semiring.
 pub fn check<S: Numeric>(alloc: Global, report: &Report<S>) -> Result<Verdict<S>, NoMemory>
     ensures verdict { IfOk result (λ v. IsVerdict S.ring S.numbering S.REVERSED (said report.now) (verdict_of v)) }
     ensures unique { IfOk result (λ v. (other : theory.Verdict S) → IsVerdict S.ring S.numbering S.REVERSED

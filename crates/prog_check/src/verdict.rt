@@ -5,7 +5,7 @@ use trop_scalar::Scalar;
 /// The verdict on a report: that it is inductive, or the first condition that fails, in this order.
 #[derive(Drop)]
 pub enum Verdict<S: Scalar> {
-    /// Everything that it says is true at every visit of every run of its program.
+    /// What it says is true at every visit of every run of its program; of a claim, where its words suit the semiring.
     Inductive,
     /// Some vector is no combination of the rows of point 0.
     NotWhole,

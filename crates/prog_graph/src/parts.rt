@@ -34,8 +34,11 @@ pub enum Point {
 /// An edge from a point to a point, both by their numbers.
 #[derive(Clone, Copy, Debug, PartialEq, Eq)]
 pub struct Edge {
+    /// The number of the point where it begins.
     pub from: u32,
+    /// The number of the point where it ends.
     pub to: u32,
+    /// What happens to a state along it.
     pub op: Op,
 }
 

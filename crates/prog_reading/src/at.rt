@@ -11,7 +11,9 @@ use trop_text::{Lexer, Piece, Pieces};
 /// The pieces that are left, with what stands before them.
 #[derive(Clone, Copy)]
 pub struct At<'a> {
+    /// The pieces that are still to come.
     pub pieces: Pieces<'a>,
+    /// What stands before the first of them. None of its counts comes to 2^64, even if each of the pieces added one.
     pub before: Before<'a>,
     ghost names_fit: { before.names + length (pieces_left pieces) < 2 ^ 64 },
     ghost commas_fit: { before.commas + length (pieces_left pieces) < 2 ^ 64 },

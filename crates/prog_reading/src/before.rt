@@ -32,7 +32,9 @@ pub struct Before<'a> {
 /// A piece, with what stands before it.
 #[derive(Clone, Copy)]
 pub struct Entry<'a> {
+    /// A token, the end of a line or the end of the input.
     pub piece: Piece<'a>,
+    /// What stands before it in its text.
     pub before: Before<'a>,
 }
 

@@ -37,7 +37,8 @@ pub fn sized(entry: Entry<'_>, bound: u64) -> Result<u64, FaultKind>
     }
 }
 
-/// A number that is at most the bound.
+/// The value of a token of digits, at most the bound, as `number` of `prog_texts/specs/Judges` judges it. Errors:
+/// `Syntax` where it is none, `NumberRange` where its value is above the bound.
 pub fn number(entry: Entry<'_>, bound: u64) -> Result<u64, FaultKind>
     ensures within { IfOk result (λ n. n ≤ bound) }
     ensures value { result ≡ spec.number bound (entry_of entry.entry) }
@@ -77,7 +78,8 @@ pub fn is_atom_too_many(entry: Entry<'_>) -> bool
     entry.begins_atom() && MOST_ATOMS <= entry.before.atoms
 }
 
-/// The word on the token at which a reader stands, with what is behind it.
+/// What a reader at the place `here` answers by the word of a judge of `prog_texts/specs/Judges` on the token there:
+/// its value, with what is behind the token, which is `rest`; or its fault, at the token.
 pub fn settle<'a, X>(
     word: Result<X, FaultKind>,
     here: At<'a>,
@@ -91,7 +93,9 @@ pub fn settle<'a, X>(
     }
 }
 
-/// This word or sign.
+/// Passes the next token, which is this word or sign, as `said` of `prog_texts/specs/Judges` judges it, and gives what
+/// is behind it. Ends of lines before it mean nothing. Errors: `Syntax` at any other token, at the end of the input,
+/// and behind it.
 #[tactic(auto, unfolding(prog_texts::specs::Words::counted, trop_grammar::specs::Reading::token_at, shape_grammar::specs::Steps::token_past))]
 pub fn said<'a>(at: At<'a>, text: &[u8]) -> Result<At<'a>, ReadErr<'a>>
     ensures gives { Gives (λ rest. (tt, left rest)) result

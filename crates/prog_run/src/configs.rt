@@ -91,6 +91,9 @@ impl Configs {
 /// A run: its configurations, from the start on, and its end.
 #[derive(Drop)]
 pub struct Traced {
+    /// The first has the state of the start, and each other one follows the one before it by a step; there is at least
+    /// one.
     pub configs: Configs,
+    /// Why no step follows the last of them.
     pub ended: End,
 }

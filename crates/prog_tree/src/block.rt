@@ -17,6 +17,7 @@ use std::marker::Model;
 #[cycle(stmt)]
 #[derive(Drop)]
 pub struct Block {
+    /// The statements, in the order in which a run takes them.
     pub stmts: Vec<Stmt>,
 }
 

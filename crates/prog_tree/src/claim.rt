@@ -138,7 +138,10 @@ impl Side {
 /// What an assert says: how the values of two sides compare.
 #[derive(Drop)]
 pub struct Claim {
+    /// The side before the sign.
     pub left: Side,
+    /// How the value of the left side is to compare with that of the right one.
     pub rel: Rel,
+    /// The side behind the sign.
     pub right: Side,
 }

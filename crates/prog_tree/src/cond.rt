@@ -13,6 +13,7 @@ use std::marker::Model;
 #[cycle(cond)]
 #[derive(Drop)]
 pub struct Cond {
+    /// Its outermost form, with the conditions that it is made of.
     pub shape: CondShape,
 }
 

@@ -2,8 +2,9 @@
 use trop_row::{Gens, System};
 use trop_scalar::Scalar;
 
-/// What a report says of one point of its program: no state comes to the point but those of the cone of the rows, by
-/// Allamigeon, Gaubert and Goubault 2008.
+/// What a report says of one point of its program: that no state comes to it but those of the cone of the rows
+/// (Allamigeon, Gaubert, Goubault, Inferring min and max invariants using max-plus polyhedra, 2008). Whether that is so
+/// is for a check.
 #[derive(Drop)]
 pub struct PointPart<S: Scalar> {
     /// The rows, with coordinate 0 in front. A point without rows is unreachable.

@@ -15,18 +15,21 @@ pub enum Part {
     Kept(u32),
 }
 
-/// A place in an analysis: the pass from 1, the number of the point, and the part of the work there.
+/// A place in an analysis: a part of the work at a point, in a pass.
 #[derive(Clone, Copy, Debug, PartialEq, Eq)]
 pub struct Place {
+    /// The number of the pass, from 1.
     pub pass: u64,
+    /// The point of the control graph, by its number from 0.
     pub point: u32,
+    /// The part of the work there.
     pub part: Part,
 }
 
 /// Where a computation stops because a cone or a list would have too many rows, or numbers of too great a size.
 #[derive(Clone, Copy, Debug, PartialEq, Eq)]
 pub enum Stop {
-    /// At the first so many inequalities of a system.
+    /// At the first so many inequalities of a system; 0 where none is taken and the result has too many rows.
     Rows(u32),
     /// At the polar of this coordinate, of the first so many rows of a cone.
     Polar(u32, u32),

@@ -13,7 +13,7 @@ use tplib_reply::{Refusal, Reply};
 /// bounds of the closed matrix of its zone, and for each assert whether its zone proves the claim, pair by pair of
 /// terms. The first `delay` changes of a loop's head are joins. Any other change is a widening: of the bounds that the
 /// last widening kept, and at the first one of all bounds, those stay that still hold. `narrow` descending passes
-/// follow (Mine, The octagon abstract domain, 2006: difference bound matrices, and why the kept bounds are not closed).
+/// follow (Miné, The octagon abstract domain, 2006: difference bound matrices, and why the kept bounds are not closed).
 ///
 /// Errors: the first fault of the bytes as a program; `Range` at the first refused place of the analysis, where a bound
 /// has a size above 2^40; want of memory. `Limit` never comes.

@@ -31,8 +31,7 @@ pub record IsDropped {V : Type 0} (R : Semiring V) (p : Inequality V) (sides : L
   pub is_words : (d : Side V) → part.words ≡ (slice_index_or sides part.place d).words
 
 -- the first m of the rows are split: the places of those that stay, the kept ones of these whose right sum is finite,
--- and the
--- dropped ones
+-- and the dropped ones
 pub record IsSplit {V : Type 0} (R : Semiring V) (p : Inequality V) (sides : List (Side V)) (m : ℕ) (stay : List ℕ)
     (kept : List (Kept V)) (dropped : List (Dropped V)) : Type 0 where
   pub stay_ascending : AllPairs (λ i j. i < j) stay

@@ -19,8 +19,7 @@ use Rattle.trop_dd.specs.declared.splitting.Dropped.{Dropped}
 use Rattle.trop_dd.specs.Carried.{found_rows}
 
 -- Rows of the canonical list of the cone after one more inequality that were found so far, by their numbers in their
--- order: of the
--- old rows those at which p is true, and new ones with what is carried beside them.
+-- order: of the old rows those at which p is true, and new ones with what is carried beside them.
 pub record AreFound {V : Type 0} (R : Semiring V) (n : ℕ) (system : List (Inequality V)) (p : Inequality V)
     (sides fresh : List (Side V)) (order : List ℕ) : Type 0 where
   pub within : All (λ k. k < length (sides ++ fresh)) order
@@ -44,8 +43,7 @@ HasGiven {V} R n system p sides found kept dropped = (d e : Side V) (x : List V)
     Contains found x
 
 -- A kept and a dropped row of the cone with what is carried beside them, of sizes that can be added, and the slot of
--- the new
--- inequality at what they give, which solves the longer system.
+-- the new inequality at what they give, which solves the longer system.
 pub record IsFit {V : Type 0} (R : Semiring V) (n : ℕ) (system : List (Inequality V)) (p : Inequality V) (v w : Side V)
     (l m : V) (slot : Slot V) : Type 0 where
   pub pair : IsPair R n system p v w l m slot

@@ -12,8 +12,7 @@ use trop_row::Row;
 use trop_scalar::Scalar;
 
 // The rows that were found so far, by their numbers in the order of rows: the old rows are numbered by their places,
-// the new
-// ones, which are kept in the order in which they were found, behind them. With room for hyperedges.
+// the new ones, which are kept in the order in which they were found, behind them. With room for hyperedges.
 #[derive(Drop)]
 pub struct Found<S: Scalar> {
     pub order: Vec<usize>,

@@ -71,8 +71,7 @@ fn mix<S: Scalar>(
 }
 
 // What is carried beside the row that a pair gives. It is `by` times that of the pair, so `first` times v and `second`
-// times w,
-// and the room has its hyperedges.
+// times w, and the room has its hyperedges.
 fn carried<S: Scalar>(
     alloc: Global,
     system: &System<S>,

@@ -41,8 +41,7 @@ impl<S: Scalar> Kept<S> {
 }
 
 // A row at which an inequality is not true, by its place in a list, with its left sum, the coordinates that reach it,
-// and its
-// words.
+// and its words.
 #[derive(Clone, Copy)]
 pub struct Dropped<S> {
     pub place: usize,
@@ -52,8 +51,7 @@ pub struct Dropped<S> {
 }
 
 // What an inequality puts beside each row of a list, the places of those at which it is true, the ones of these whose
-// right
-// sum is finite, and the other rows.
+// right sum is finite, and the other rows.
 #[derive(Drop)]
 pub struct Split<S: Scalar> {
     pub additions: Vec<Addition<S>>,

@@ -16,9 +16,13 @@ use trop_scalar::Scalar;
 /// A row, its words, its slot for each inequality, and the places of those that give a tangent hyperedge.
 #[derive(Drop)]
 pub struct Carried<S: Scalar> {
+    /// A solution of the system.
     pub row: Row<S>,
+    /// Its finite coordinates, its types and its cover.
     pub words: RowWords,
+    /// Its slot for each inequality of the system, in their order.
     pub slots: Vec<RowSlot<S>>,
+    /// The places in `slots`, from 0, of those that give a tangent hyperedge.
     pub places: Vec<usize>,
 }
 

@@ -21,8 +21,7 @@ use trop_row::{Ineq, Row, System};
 use trop_scalar::Scalar;
 
 /// The slot of an inequality at what a kept and a dropped row give, from that at the kept row, the left sum of the
-/// dropped one
-/// and the coordinates there that reach it.
+/// dropped one and the coordinates there that reach it.
 pub fn new_slot<S: Scalar>(kept: RowSlot<S>, left: S, reached: Mask) -> RowSlot<S>
     requires { S.ring.size left + S.ring.size kept.sum ≤ most_element }
     ensures sum { result.sum ≡ S.ring.times left kept.sum }
@@ -37,8 +36,7 @@ pub fn new_slot<S: Scalar>(kept: RowSlot<S>, left: S, reached: Mask) -> RowSlot<
 }
 
 /// The new row of a pair, in normal form, with all that is carried beside it. `left` and `right` are the multiples of
-/// the two
-/// rows that it is the sum of, and `slot` is that of the inequality at it.
+/// the two rows that it is the sum of, and `slot` is that of the inequality at it.
 pub fn carry<S: Scalar>(
     alloc: Global,
     system: &System<S>,

@@ -33,10 +33,8 @@ fn two_open(room: &Hyper, looks: &mut Looks) -> bool
 }
 
 /// The types of what a pair gives, none where it is not extreme. `slot` is that of the inequality there. What `room`
-/// held
-/// before is of no account; it is left with the tangent hyperedges of what the pair gives, each with a tail. At least
-/// one look
-/// is made.
+/// held before is of no account; it is left with the tangent hyperedges of what the pair gives, each with a tail. At
+/// least one look is made.
 pub fn judge<S: Scalar>(
     room: &mut Hyper,
     system: &System<S>,

@@ -20,12 +20,15 @@ use trop_row::{Ineq, System};
 use trop_scalar::Scalar;
 
 /// What one more inequality puts beside a row: its slot there and, where this gives a hyperedge, the types of the row
-/// from then
-/// on and the nodes that the hyperedge leaves alone.
+/// from then on and the nodes that the hyperedge leaves alone.
 #[derive(Clone, Copy)]
 pub struct Addition<S> {
+    /// The slot of the inequality at the row.
     pub slot: RowSlot<S>,
+    /// The types of the row once the inequality is taken.
     pub types: Mask,
+    /// The nodes that the hyperedge of the slot leaves alone, with maybe others; none where the slot gives no
+    /// hyperedge.
     pub alone: Mask,
 }
 

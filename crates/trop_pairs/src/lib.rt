@@ -1,6 +1,5 @@
 //! What the double description carries beside a row, and how a pair of rows is judged by it without a look at a
-//! coordinate:
-//! a test on words that rejects most pairs, and the tangent hypergraph of what a pair gives.
+//! coordinate: a test on words that rejects most pairs, and the tangent hypergraph of what a pair gives.
 #![tactic(auto)]
 
 mod carried;

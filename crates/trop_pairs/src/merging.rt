@@ -16,7 +16,9 @@ use trop_scalar::Scalar;
 /// Slots, and the places of those that give a hyperedge.
 #[derive(Drop)]
 pub struct Slots<S: Scalar> {
+    /// One for each inequality, in their order.
     pub slots: Vec<RowSlot<S>>,
+    /// The places in `slots`, from 0, of those that give a hyperedge.
     pub places: Vec<usize>,
 }
 

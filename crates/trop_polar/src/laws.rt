@@ -9,7 +9,8 @@ ghost use Rattle.trop_duality.specs.External.{IsExternal};
 
 use trop_scalar::Scalar;
 
-/// The solutions of the external list of a generated cone are exactly the cone.
+/// The solutions of the external list of a generated cone are exactly the cone (Gaubert, Katz, The tropical analogue of
+/// polar cones, 2009).
 pub fn bipolar<S: Scalar>()
     ensures { (n : ℕ) (rows : List (List S)) (system : List (Inequality S)) → AreWide n rows → IsExternal S.ring n (IsCombination S.ring n rows) system → (x : List S) → Solves S.ring n system x ↔ IsCombination S.ring n rows x }
 {}

@@ -25,7 +25,8 @@ fn split_at<S: Scalar>(alloc: Global, row: &Row<S>, i: u32) -> Result<Ineq<S>, N
 }
 
 /// The inequality that a row of the i-th polar gives: coordinate i is at most the sum of the other coordinates, each
-/// scaled by its entry of the row, where the row itself is scaled so that its entry i is the one.
+/// scaled by its entry of the row, where the row itself is scaled so that its entry i is the one (Gaubert, Katz, The
+/// tropical analogue of polar cones, 2009).
 pub fn inequality_of<S: Scalar>(alloc: Global, row: &Row<S>, i: u32) -> Result<Ineq<S>, NoMemory>
     requires within { i < length row.now }
     requires finite { entry S.ring row.now i ≢ S.ring.zero }
@@ -37,8 +38,9 @@ pub fn inequality_of<S: Scalar>(alloc: Global, row: &Row<S>, i: u32) -> Result<I
     split_at(alloc, &scaled, i)
 }
 
-/// The system whose solutions are the i-th polar of the cone that the rows generate: one inequality a row, in their
-/// order, with the row's entry i at coordinate i on its left, and the row's other entries on its right.
+/// The system whose solutions are the i-th polar of the cone that the rows generate (Gaubert, Katz, The tropical
+/// analogue of polar cones, 2009): one inequality a row, in their order, with the row's entry i at coordinate i on its
+/// left, and the row's other entries on its right.
 pub fn polar_system<S: Scalar>(alloc: Global, gens: &Gens<S>, i: u32) -> Result<System<S>, NoMemory>
     requires { i < gens.now.n }
     ensures width { IfOk result (λ system. system.n ≡ gens.now.n) }

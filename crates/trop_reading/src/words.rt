@@ -36,7 +36,8 @@ pub fn is_digits(piece: Piece<'_>) -> bool
     }
 }
 
-/// A number that is at most the bound.
+/// The value of a piece of digits, at most the bound, as `number` of `specs/Words` judges it. Errors: `Syntax` where
+/// the piece is no number, `NumberRange` where its value is above the bound.
 #[tactic(auto, unfolding(crate::specs::Words::number))]
 pub fn number(piece: Piece<'_>, bound: u64) -> Result<u64, FaultKind>
     ensures within { IfOk result (λ n. n ≤ bound) }
@@ -53,7 +54,8 @@ pub fn number(piece: Piece<'_>, bound: u64) -> Result<u64, FaultKind>
     }
 }
 
-/// This word or sign.
+/// Passes the next piece, which is this word or sign, as `said` of `specs/Words` judges it, and gives what is behind
+/// it. Errors: `Syntax` at any other piece, and where none is left.
 #[tactic(auto, unfolding(trop_grammar::specs::Reading::token_at))]
 pub fn said<'a>(at: Pieces<'a>, text: &[u8]) -> Result<Pieces<'a>, ReadErr<'a>>
     ensures gives { Gives (λ rest. (tt, pieces_left rest)) result
@@ -90,7 +92,8 @@ pub fn input_end<'a>(at: Pieces<'a>) -> Result<Pieces<'a>, ReadErr<'a>>
     }
 }
 
-/// The word on the piece at which a reader stands, with what is behind it.
+/// What a reader at the place `at` answers by the word of a judge of `specs/Words` on the piece there: its value, with
+/// what is behind the piece, which is `rest`; or its fault, at the piece.
 pub fn settle<'a, X>(
     word: Result<X, FaultKind>,
     at: Pieces<'a>,

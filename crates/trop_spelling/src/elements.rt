@@ -181,7 +181,8 @@ fn more_entries<'a, S: Spelling>(
     Ok(rest)
 }
 
-// A row of so many elements.
+/// A row of so many elements, whose numbers have size at most `bound`, from `[` to `]`, and what is behind it. For
+/// readers that go on there.
 #[tactic(auto, unfolding(trop_grammar::specs::Reading::gives, trop_grammar::specs::Reading::read_then, crate::specs::Elements::row_at))]
 pub fn row_entries<'a, S: Spelling>(
     alloc: Global,

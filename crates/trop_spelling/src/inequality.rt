@@ -86,7 +86,9 @@ fn order<'a, S: Spelling>(at: Pieces<'a>) -> Result<(bool, Pieces<'a>), ReadErr<
     }
 }
 
-// The rest of an inequality, up to the end of the line.
+/// The rest of an inequality behind the first token of its left side, of which `start` says what
+/// [`side_start`](crate::side_start) found, with the end of its line. It has a coordinate for each name and coordinate
+/// 0, and numbers of size at most `bound`.
 #[tactic(auto, unfolding(trop_grammar::specs::Reading::read_then, trop_grammar::specs::Reading::gives, crate::specs::Inequalities::inequality_rest_at))]
 pub fn inequality_rest<'a, S: Spelling>(
     alloc: Global,

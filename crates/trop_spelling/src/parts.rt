@@ -64,8 +64,9 @@ fn inequality_line<'a, S: Spelling>(
     inequality_rest(alloc, names, start, rest, bound)
 }
 
-/// Reads a row of `len` elements, whose numbers have size at most `bound`, from the next tokens. They are all that are
-/// left in their line, which is the line of this number; no token of an earlier line is left.
+/// Reads a row of `len` elements, whose numbers have size at most `bound`, from the next tokens up to the end of the
+/// line of this number, where 0 stands for the line of the first of them. A token of another line that comes first ends
+/// the row there.
 ///
 /// Behind the row the lexer goes on with the next line. A refusal is the first fault of these tokens and the end of
 /// their line, or `NoMemory`.
@@ -101,9 +102,9 @@ pub fn read_row<'a, S: Spelling>(
     }
 }
 
-/// Reads an inequality in the variables with these names, whose numbers have size at most `bound`, from the next
-/// tokens.
-/// They are all that are left in their line, which is the line of this number; no token of an earlier line is left.
+/// Reads an inequality in the variables with these names, whose numbers have size at most `bound`, from the next tokens
+/// up to the end of the line of this number, where 0 stands for the line of the first of them. A token of another line
+/// that comes first ends the inequality there.
 ///
 /// Behind the inequality the lexer goes on with the next line. A refusal is the first fault of these tokens and the end
 /// of their line, or `NoMemory`.

@@ -346,7 +346,8 @@ fn terms<'a, S: Spelling>(
     }
 }
 
-// The sum word, as none, or what a term begins with.
+/// What the first token of a side says: the sum word, as none, or what the one term of the side begins with. A number
+/// there is at most `bound`.
 pub fn side_start<S: Spelling>(
     names: &Names,
     piece: Piece<'_>,

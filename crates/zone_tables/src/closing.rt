@@ -73,7 +73,8 @@ fn passed_table(
     Ok(Table::of(out))
 }
 
-/// The closed matrix of the zone of the bounds, which has a state.
+/// The closed matrix of the zone of the bounds, which has a state (Miné, A new numerical abstract domain based on
+/// difference-bound matrices, 2001; the passes: Floyd, Algorithm 97: Shortest path, 1962).
 pub fn closed_table(alloc: Global, bounds: &[Option<i128>], vars: usize) -> Result<Table, NoMemory>
     requires few { vars ≤ 63 }
     requires table { IsTable (suc vars) bounds.now }

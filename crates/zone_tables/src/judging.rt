@@ -17,7 +17,7 @@ fn is_large(bound: Option<i128>) -> bool
     }
 }
 
-/// Whether one of the bounds is.
+/// Whether some number has size above 2^40.
 pub fn has_large(bounds: &[Option<i128>]) -> bool
     ensures yes { OnTrue result (HasLarge bounds.now) }
     ensures no { OnFalse result (AreWithin (2 ^ 40) bounds.now) }

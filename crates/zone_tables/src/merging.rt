@@ -26,7 +26,7 @@ pub fn joined_table(
     Ok(Table::of(out))
 }
 
-/// Of the old bounds those that are kept where the differences are at most the bounds reached.
+/// Each old bound that is no smaller than what was reached at its pair; none in place of any other.
 pub fn kept_table(
     alloc: Global,
     old: &[Option<i128>],

@@ -31,7 +31,7 @@ impl Table {
         Table { bounds }
     }
 
-    /// No bound at all, for so many coordinates.
+    /// No bound at any pair of so many coordinates: the matrix of all states.
     pub fn free(alloc: Global, side: usize) -> Result<Table, NoMemory>
         requires { side ≤ 64 }
         ensures { IfOk result (λ t. t ≡ replicate (side * side) None) }

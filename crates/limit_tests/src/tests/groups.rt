@@ -4,8 +4,7 @@ use std::alloc::Global;
 use std::test::Fail;
 
 /// Variables in groups, each group at most the next one, so that an extreme row has one variable of each group from
-/// some
-/// group on.
+/// some group on.
 struct Groups {
     vars: &'static str,
     inequalities: &'static str,
