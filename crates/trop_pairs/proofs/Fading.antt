@@ -174,36 +174,39 @@ module _ {V : Type 0} {R : Semiring V} (laws : SemiringLaws R) where
       module _ (vs ws : List (Slot V)) (vp : List ℕ) (start some nodes : ℕ) (evs : vs ≡ v.slots)
           (ews : ws ≡ w.slots) (evp : vp ≡ v.places)
           (closing : (u : ℕ) → (Has start u → ⊥) → ((j : ℕ) → Has slot.tail j → j ≡ u) → ⊥)
-          (from_start : (u : ℕ) → (Has some u → ⊥) → Has start u → ⊥)
           (first : (u : ℕ) → (Has some u → ⊥) → All (λ k. IsSpared R l m (slot_at R vs k) (slot_at R ws k) u) vp)
           (in_nodes : (i : ℕ) → Has nodes i ↔ (Has v.words.support i ⊎ Has w.words.support i)) where
-        left_type : (u : ℕ) → Has nodes u → (Has some u → ⊥) → ((k : ℕ) → k < length system →
+        left_type : (u : ℕ) → Has nodes u → (Has start u → ⊥) → (Has some u → ⊥) → ((k : ℕ) → k < length system →
             HasEdge (slot_at R w.slots k) → IsSpared R m l (slot_at R w.slots k) (slot_at R v.slots k) u) → u ≡ t
-        left_type u node out second = sym (spared_is_type u
+        left_type u node unclosed out second = sym (spared_is_type u
             (subst (λ a. All (λ k. IsSpared R l m (slot_at R a k) (slot_at R w.slots k) u) v.places) evs
             (subst (λ b. All (λ k. IsSpared R l m (slot_at R vs k) (slot_at R b k) u) v.places) ews
             (subst (All (λ k. IsSpared R l m (slot_at R vs k) (slot_at R ws k) u)) evp (first u out))))
-            second (closing u (from_start u out)) ((in_nodes u).0 node))
+            second (closing u unclosed) ((in_nodes u).0 node))
 
-        -- after the places of the first row
-        pub early_type : (cover both early : ℕ) → cover ≡ w.words.cover →
-            ((i : ℕ) → Has both i ↔ (Has some i ⊎ Has cover i)) →
-            ((i : ℕ) → Has early i ↔ (Has nodes i × (Has both i → ⊥))) → (u : ℕ) → Has early u → u ≡ t
-        early_type cover both early is in_both in_early u here =
+        -- after the places of the first row, where what the second row covers counts as closed
+        pub early_type : (cover closed early : ℕ) → cover ≡ w.words.cover →
+            ((i : ℕ) → Has closed i ↔ (Has start i ⊎ Has cover i)) →
+            ((u : ℕ) → (Has some u → ⊥) → Has closed u → ⊥) →
+            ((i : ℕ) → Has early i ↔ (Has nodes i × (Has some i → ⊥))) → (u : ℕ) → Has early u → u ≡ t
+        early_type cover closed early is in_closed from_closed in_early u here =
             let r = (in_early u).0 here in
+            let unclosed = from_closed u r.1 in
             let bare : IsOpenAt R system w.row u =
-            h.second.words.cover u (λ k. r.1 ((in_both u).1 (inr (subst (λ c. Has c u) (sym is) k)))) in
-            left_type u r.0 (λ k. r.1 ((in_both u).1 (inl k)))
+            h.second.words.cover u (λ k. unclosed ((in_closed u).1 (inr (subst (λ c. Has c u) (sym is) k)))) in
+            left_type u r.0 (λ k. unclosed ((in_closed u).1 (inl k))) r.1
             (λ k few has. inl (back_slot R w.row (get_or system k p) (slot_at R w.slots k) u
             (slot_of R w.row system w.slots k p h.second.slots few) (bare k p few)))
 
         -- after the places of both
-        pub open_type : (wp : List ℕ) (all bare : ℕ) → wp ≡ w.places → ((u : ℕ) → (Has all u → ⊥) → Has some u → ⊥) →
+        pub open_type : (wp : List ℕ) (all bare : ℕ) → wp ≡ w.places → ((u : ℕ) → (Has some u → ⊥) → Has start u → ⊥) →
+            ((u : ℕ) → (Has all u → ⊥) → Has some u → ⊥) →
             ((u : ℕ) → (Has all u → ⊥) → All (λ k. IsSpared R m l (slot_at R ws k) (slot_at R vs k) u) wp) →
             ((i : ℕ) → Has bare i ↔ (Has nodes i × (Has all i → ⊥))) → (u : ℕ) → Has bare u → u ≡ t
-        open_type wp all bare ewp from_some second in_open u here =
+        open_type wp all bare ewp from_start from_some second in_open u here =
             let r = (in_open u).0 here in
-            left_type u r.0 (from_some u r.1)
+            let out = from_some u r.1 in
+            left_type u r.0 (from_start u out) out
             (λ k few has. All-contains (λ k. IsSpared R m l (slot_at R w.slots k) (slot_at R v.slots k) u) w.places k
             (subst (λ a. All (λ k. IsSpared R m l (slot_at R w.slots k) (slot_at R a k) u) w.places) evs
             (subst (λ b. All (λ k. IsSpared R m l (slot_at R b k) (slot_at R vs k) u) w.places) ews

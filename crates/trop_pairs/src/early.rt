@@ -122,11 +122,13 @@ pub fn fades<S: Scalar>(
     let nodes = nodes_of(first, second);
     let types = second.types();
     let start = closed_by(Mask::empty(), slot.tail);
-    let some = covered(first.places(), before, left, after, right, start, looks);
-    let early = nodes.minus(some.union(second.cover()));
-    if rules_out(early, types) {
+    let closed = start.union(second.cover());
+    let early = covered(first.places(), before, left, after, right, closed, looks);
+    let bare = nodes.minus(early);
+    if rules_out(bare, types) {
         return true;
     }
+    let some = covered(first.places(), before, left, after, right, start, looks);
     let all = covered(second.places(), after, right, before, left, some, looks);
     let open = nodes.minus(all);
     rules_out(open, types)
