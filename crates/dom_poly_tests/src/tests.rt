@@ -2,4 +2,3 @@
 mod analyses;
 mod laws;
 mod reading;
-mod rows;

@@ -1,9 +1,9 @@
 // Analyses by tropical polyhedra; what is wanted was worked by hand.
 use super::reading::graph_of;
-use super::rows::rows_text;
 use dom_core::{Domain, Part, Place};
 use dom_iter::{Family, IterErr, analyse};
 use dom_poly::PolyDomain;
+use row_examples::rows_text;
 use std::alloc::Global;
 use std::test::Fail;
 use trop_scalar::{MaxInt, MinInt, Numeric};
