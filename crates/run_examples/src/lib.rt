@@ -1,8 +1,10 @@
-//! What the tests of runs share: how a worked example is run and compared, and draws that are the same in every run.
+//! What the tests of runs share: how a worked example is run, over streams that fail or do not, and compared.
 #![tactic(auto)]
 
-mod draws;
+mod calm;
 mod ending;
+mod failing;
 
-pub use draws::Draws;
-pub use ending::{answer_of, each_ends_so, ends_so, same_ending, split};
+pub use calm::{answer_of, each_ends_so, ended, ends_so};
+pub use ending::{Ended, same_ending, shown, split};
+pub use failing::{Run, leaves};

@@ -164,12 +164,12 @@ const NO_SOLUTIONS: [(&str, &str); 9] = [
 
 #[test]
 fn tangent_hypergraphs_types_and_extremality(rt: HostRuntime) -> Result<(), Fail> {
-    assert!(rt; each_ends_so(rt.alloc(), "tangent", 0, &SOLUTIONS)?);
+    each_ends_so(rt.alloc(), "tangent", 0, &SOLUTIONS)?;
     Ok(())
 }
 
 #[test]
 fn rows_that_are_no_solutions(rt: HostRuntime) -> Result<(), Fail> {
-    assert!(rt; each_ends_so(rt.alloc(), "tangent", 1, &NO_SOLUTIONS)?);
+    each_ends_so(rt.alloc(), "tangent", 1, &NO_SOLUTIONS)?;
     Ok(())
 }

@@ -1,5 +1,5 @@
 //! Answers of `reduce`.
-use run_examples::{each_ends_so, ends_so};
+use run_examples::{each_ends_so, ended, ends_so};
 use std::test::Fail;
 
 // Files of generators, and the file that `reduce` writes.
@@ -144,7 +144,7 @@ const ANSWERS: [(&str, &str); 34] = [
 
 #[test]
 fn files_of_generators_are_reduced(rt: HostRuntime) -> Result<(), Fail> {
-    assert!(rt; each_ends_so(rt.alloc(), "reduce", 0, &ANSWERS)?);
+    each_ends_so(rt.alloc(), "reduce", 0, &ANSWERS)?;
     Ok(())
 }
 
@@ -152,8 +152,7 @@ fn files_of_generators_are_reduced(rt: HostRuntime) -> Result<(), Fail> {
 fn what_reduce_writes_is_read_back_as_it_stands(rt: HostRuntime) -> Result<(), Fail> {
     let alloc = rt.alloc();
     for (_, out) in &ANSWERS {
-        let ends = ends_so(alloc, "reduce", out.as_bytes(), 0, out.as_bytes(), b"")?;
-        assert!(rt; ends, "{out}");
+        ends_so(alloc, "again", "reduce", out.as_bytes(), ended(0, out))?;
     }
     Ok(())
 }

@@ -1,82 +1,73 @@
 //! Answers of `int lean=on`, worked out by hand.
 use itoa::Buffer;
-use run_examples::{answer_of, ends_so};
+use run_examples::{answer_of, ended, ends_so};
 use std::alloc::Global;
 use std::test::Fail;
 
-/// A run that reads a file, and what it is to end with.
-struct Case {
-    input: &'static str,
-    code: u8,
-    out: &'static str,
-    err: &'static str,
-}
+/// Why a case stands, the file that a run reads, and the code and the text of its end.
+type Case = (&'static str, &'static str, u8, &'static str);
 
 const CASES: [Case; 10] = [
-    // A single point: both bounds are needed.
-    Case {
-        input: "kind gens\nsemiring max\nvars x\npoint [2]\n",
-        code: 0,
-        out: "kind ineqs\nsemiring max\nvars x\n0 <= x - 2\n# fails at [0, -oo]\nx <= 2\n# fails at [-oo, 0]\n",
-        err: "",
-    },
-    Case {
-        input: "kind gens\nsemiring min\nvars x\npoint [-2]\n",
-        code: 0,
-        out: "kind ineqs\nsemiring min\nvars x\n0 >= x + 2\n# fails at [0, oo]\nx >= -2\n# fails at [oo, 0]\n",
-        err: "",
-    },
-    Case {
-        input: "kind gens\nsemiring bool\nvars x\npoint [true]\n",
-        code: 0,
-        out: "kind ineqs\nsemiring bool\nvars x\ntrue => x\n# fails at [true, false]\nx => true\n# fails at [false, true]\n",
-        err: "",
-    },
-    // The bound x <= 3 follows from x <= y - 1 and y <= 4.
-    Case {
-        input: "kind gens\nsemiring max\nvars x y\npoint [-oo, -oo]\npoint [3, 4]\n",
-        code: 0,
-        out: "kind ineqs\nsemiring max\nvars x y\nx <= y - 1\n# fails at [0, 3, -oo]\ny <= x + 1\n# fails at [0, -oo, 4]\ny <= 4\n# fails at [-oo, 0, 1]\n",
-        err: "",
-    },
-    Case {
-        input: "kind gens\nsemiring min\nvars x y\npoint [oo, oo]\npoint [-3, -4]\n",
-        code: 0,
-        out: "kind ineqs\nsemiring min\nvars x y\nx >= y + 1\n# fails at [0, -3, oo]\ny >= x - 1\n# fails at [0, oo, -4]\ny >= -4\n# fails at [oo, 0, -1]\n",
-        err: "",
-    },
-    Case {
-        input: "kind gens\nsemiring bool\nvars x y\npoint [false, false]\npoint [true, true]\n",
-        code: 0,
-        out: "kind ineqs\nsemiring bool\nvars x y\nx => y\n# fails at [true, true, false]\ny => x\n# fails at [true, false, true]\ny => true\n# fails at [false, true, true]\n",
-        err: "",
-    },
-    // No row: each coordinate is bounded by the zero. And all vectors, whose list is empty.
-    Case {
-        input: "kind gens\nsemiring max\nvars x\n",
-        code: 0,
-        out: "kind ineqs\nsemiring max\nvars x\n0 <= -oo\n# fails at [0, -oo]\nx <= -oo\n# fails at [-oo, 0]\n",
-        err: "",
-    },
-    Case {
-        input: "kind gens\nsemiring max\nvars x\nray [0]\npoint [-oo]\n",
-        code: 0,
-        out: "kind ineqs\nsemiring max\nvars x\n",
-        err: "",
-    },
-    // Faults of the text.
-    Case {
-        input: "kind ineqs\nsemiring max\nvars x\n",
-        code: 3,
-        out: "",
-        err: "tplib: line 1: wrong kind\n",
-    },
-    Case {
-        input: "kind gens\nsemiring max\nvars x\npoint [2, 3]\n",
-        code: 3,
-        out: "",
-        err: "tplib: line 4, column 9: syntax\n",
-    },
+    (
+        "a single point: both bounds are needed",
+        "kind gens\nsemiring max\nvars x\npoint [2]\n",
+        0,
+        "kind ineqs\nsemiring max\nvars x\n0 <= x - 2\n# fails at [0, -oo]\nx <= 2\n# fails at [-oo, 0]\n",
+    ),
+    (
+        "a single point in min",
+        "kind gens\nsemiring min\nvars x\npoint [-2]\n",
+        0,
+        "kind ineqs\nsemiring min\nvars x\n0 >= x + 2\n# fails at [0, oo]\nx >= -2\n# fails at [oo, 0]\n",
+    ),
+    (
+        "a truth value that is fixed",
+        "kind gens\nsemiring bool\nvars x\npoint [true]\n",
+        0,
+        "kind ineqs\nsemiring bool\nvars x\ntrue => x\n# fails at [true, false]\nx => true\n# fails at [false, true]\n",
+    ),
+    (
+        "the bound x <= 3 follows from x <= y - 1 and y <= 4",
+        "kind gens\nsemiring max\nvars x y\npoint [-oo, -oo]\npoint [3, 4]\n",
+        0,
+        "kind ineqs\nsemiring max\nvars x y\nx <= y - 1\n# fails at [0, 3, -oo]\ny <= x + 1\n# fails at [0, -oo, 4]\ny <= 4\n# fails at [-oo, 0, 1]\n",
+    ),
+    (
+        "the mirror of this in min",
+        "kind gens\nsemiring min\nvars x y\npoint [oo, oo]\npoint [-3, -4]\n",
+        0,
+        "kind ineqs\nsemiring min\nvars x y\nx >= y + 1\n# fails at [0, -3, oo]\ny >= x - 1\n# fails at [0, oo, -4]\ny >= -4\n# fails at [oo, 0, -1]\n",
+    ),
+    (
+        "two truth values that are one",
+        "kind gens\nsemiring bool\nvars x y\npoint [false, false]\npoint [true, true]\n",
+        0,
+        "kind ineqs\nsemiring bool\nvars x y\nx => y\n# fails at [true, true, false]\ny => x\n# fails at [true, false, true]\ny => true\n# fails at [false, true, true]\n",
+    ),
+    (
+        "no row: each coordinate is bounded by the zero",
+        "kind gens\nsemiring max\nvars x\n",
+        0,
+        "kind ineqs\nsemiring max\nvars x\n0 <= -oo\n# fails at [0, -oo]\nx <= -oo\n# fails at [-oo, 0]\n",
+    ),
+    (
+        "all vectors, whose list is empty",
+        "kind gens\nsemiring max\nvars x\nray [0]\npoint [-oo]\n",
+        0,
+        "kind ineqs\nsemiring max\nvars x\n",
+    ),
+    (
+        "a file of inequalities",
+        "kind ineqs\nsemiring max\nvars x\n",
+        3,
+        "tplib: line 1: wrong kind\n",
+    ),
+    (
+        "an entry too many",
+        "kind gens\nsemiring max\nvars x\npoint [2, 3]\n",
+        3,
+        "tplib: line 4, column 9: syntax\n",
+    ),
 ];
 
 // A cone with 286 extreme rows. The inequalities of its external list come in another order: x <= max(a7, b7) down to
@@ -87,17 +78,9 @@ const LARGE_FRONT: &str =
 
 #[test]
 fn lean_lists_with_their_rows(rt: HostRuntime) -> Result<(), Fail> {
-    let alloc = rt.alloc();
-    for case in &CASES {
-        let ended = ends_so(
-            alloc,
-            "int lean=on",
-            case.input.as_bytes(),
-            case.code,
-            case.out.as_bytes(),
-            case.err.as_bytes(),
-        )?;
-        assert!(rt; ended, "{}", case.input);
+    for (why, input, code, text) in &CASES {
+        let wanted = ended(*code, text);
+        ends_so(rt.alloc(), why, "int lean=on", input.as_bytes(), wanted)?;
     }
     Ok(())
 }
@@ -105,35 +88,16 @@ fn lean_lists_with_their_rows(rt: HostRuntime) -> Result<(), Fail> {
 // What `int lean=on` prints is converted back to the rows.
 #[test]
 fn lean_lists_convert_back(rt: HostRuntime) -> Result<(), Fail> {
-    let alloc = rt.alloc();
-    let rows = b"kind gens\nsemiring max\nvars x y\npoint [-oo, -oo]\npoint [3, 4]\n";
-    let bounds = answer_of(alloc, "int lean=on", rows.as_slice())?;
-    assert!(rt; bounds.is_some());
-    if let Some(bounds) = bounds {
-        assert!(rt; ends_so(alloc, "ext", bounds.as_slice(), 0, rows.as_slice(), b"")?);
-    }
-    Ok(())
+    let rows = "kind gens\nsemiring max\nvars x y\npoint [-oo, -oo]\npoint [3, 4]\n";
+    let bounds = answer_of(rt.alloc(), "int lean=on", rows.as_bytes())?;
+    ends_so(rt.alloc(), "there and back", "ext", &bounds, ended(0, rows))
 }
 
 #[test]
 fn the_others_of_an_inequality_past_the_limit(rt: HostRuntime) -> Result<(), Fail> {
-    let alloc = rt.alloc();
-    let rows = answer_of(alloc, "ext", LARGE_FRONT.as_bytes())?;
-    assert!(rt; rows.is_some());
-    if let Some(rows) = rows {
-        let line = b"tplib: limit: lean 1 inequalities 12\n";
-        assert!(rt;
-            ends_so(
-                alloc,
-                "int lean=on",
-                rows.as_slice(),
-                4,
-                b"",
-                line.as_slice()
-            )?
-        );
-    }
-    Ok(())
+    let rows = answer_of(rt.alloc(), "ext", LARGE_FRONT.as_bytes())?;
+    let line = ended(4, "tplib: limit: lean 1 inequalities 12\n");
+    ends_so(rt.alloc(), "a large front", "int lean=on", &rows, line)
 }
 
 // Four points with 8 variables each, of 32: a bound on the constant has a variable of each of them, so there are 4,096.
@@ -160,14 +124,10 @@ fn four_groups(alloc: Global) -> Result<Vec<u8>, Fail> {
 
 #[test]
 fn a_polar_past_the_limit(rt: HostRuntime) -> Result<(), Fail> {
-    let alloc = rt.alloc();
-    let text = four_groups(alloc)?;
+    let text = four_groups(rt.alloc())?;
     for words in ["int", "int lean=on"] {
-        let line = b"tplib: limit: polar 0 rows 4\n";
-        assert!(rt;
-            ends_so(alloc, words, text.as_slice(), 4, b"", line.as_slice())?,
-            "{words}"
-        );
+        let line = ended(4, "tplib: limit: polar 0 rows 4\n");
+        ends_so(rt.alloc(), "four groups", words, &text, line)?;
     }
     Ok(())
 }

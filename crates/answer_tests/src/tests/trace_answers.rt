@@ -1,5 +1,5 @@
 //! Chosen runs: what `trace` writes, and which trace files it refuses.
-use run_examples::ends_so;
+use run_examples::{each_ends_so, ended, ends_so};
 use std::alloc::Global;
 use std::test::Fail;
 
@@ -159,100 +159,85 @@ const FAULTS: [(&str, &str); 10] = [
     ),
 ];
 
-// A trace file of a head, the same part so many times, and what stands last.
-struct Long {
-    head: &'static str,
-    part: &'static str,
-    count: u32,
-    last: &'static str,
-    code: u8,
-    out: &'static str,
-    err: &'static str,
-}
+/// Why a case stands, a trace file of a head, the same part so many times, and what stands last, and the code and the text of
+/// the end.
+type Long = (
+    &'static str,
+    &'static str,
+    (&'static str, u32),
+    &'static str,
+    u8,
+    &'static str,
+);
 
 const LONG: [Long; 4] = [
-    Long {
-        head: "vars;",
-        part: "skip;",
-        count: 400,
-        last: "start [] choices []",
-        code: 0,
-        out: "at 0 []\nat 1 []\nend turns-spent\n",
-        err: "",
-    },
-    Long {
-        head: "vars;",
-        part: "skip;",
-        count: 401,
-        last: "start [] choices []",
-        code: 3,
-        out: "",
-        err: "tplib: line 1: too many statements\n",
-    },
-    Long {
-        head: "vars;\nassume ?",
-        part: " || ?",
-        count: 1_200,
-        last: "; start [] choices []",
-        code: 3,
-        out: "",
-        err: "tplib: line 2: too many atoms\n",
-    },
-    Long {
-        head: "vars;\n\n",
-        part: "if ? {",
-        count: 65,
-        last: "",
-        code: 3,
-        out: "",
-        err: "tplib: line 3: nested too deep\n",
-    },
+    (
+        "as many statements as there may be",
+        "vars;",
+        ("skip;", 400),
+        "start [] choices []",
+        0,
+        "at 0 []\nat 1 []\nend turns-spent\n",
+    ),
+    (
+        "one statement more",
+        "vars;",
+        ("skip;", 401),
+        "start [] choices []",
+        3,
+        "tplib: line 1: too many statements\n",
+    ),
+    (
+        "more atoms than there may be",
+        "vars;\nassume ?",
+        (" || ?", 1_200),
+        "; start [] choices []",
+        3,
+        "tplib: line 2: too many atoms\n",
+    ),
+    (
+        "nested deeper than it may be",
+        "vars;\n\n",
+        ("if ? {", 65),
+        "",
+        3,
+        "tplib: line 3: nested too deep\n",
+    ),
 ];
 
-fn text_of(alloc: Global, case: &Long) -> Result<Vec<u8>, Fail> {
-    let mut text = Vec::from_slice(alloc, case.head.as_bytes())?;
-    for _ in 0..case.count {
-        text.extend_from_slice(case.part.as_bytes())?;
+fn text_of(alloc: Global, head: &str, part: &str, count: u32, last: &str) -> Result<Vec<u8>, Fail> {
+    let mut text = Vec::from_slice(alloc, head.as_bytes())?;
+    for _ in 0..count {
+        text.extend_from_slice(part.as_bytes())?;
     }
-    text.extend_from_slice(case.last.as_bytes())?;
+    text.extend_from_slice(last.as_bytes())?;
     Ok(text)
 }
 
 #[test]
 fn chosen_runs(rt: HostRuntime) -> Result<(), Fail> {
-    let alloc = rt.alloc();
     for (words, input, answer) in &RUNS {
-        let ends = ends_so(alloc, words, input.as_bytes(), 0, answer.as_bytes(), b"")?;
-        assert!(rt; ends, "{words}: {input}");
+        ends_so(
+            rt.alloc(),
+            "a chosen run",
+            words,
+            input.as_bytes(),
+            ended(0, answer),
+        )?;
     }
     Ok(())
 }
 
 #[test]
 fn trace_files_at_fault(rt: HostRuntime) -> Result<(), Fail> {
-    let alloc = rt.alloc();
-    for (input, line) in &FAULTS {
-        let ends = ends_so(
-            alloc,
-            "trace turns=1",
-            input.as_bytes(),
-            3,
-            b"",
-            line.as_bytes(),
-        )?;
-        assert!(rt; ends, "{input}");
-    }
-    Ok(())
+    each_ends_so(rt.alloc(), "trace turns=1", 3, &FAULTS)
 }
 
 #[test]
 fn limits_of_trace_files(rt: HostRuntime) -> Result<(), Fail> {
-    let alloc = rt.alloc();
-    for case in &LONG {
-        let input = text_of(alloc, case)?;
-        let (out, err) = (case.out.as_bytes(), case.err.as_bytes());
-        let ends = ends_so(alloc, "trace turns=1", &input, case.code, out, err)?;
-        assert!(rt; ends, "{} .. {}", case.part, case.last);
+    for (why, head, (part, count), last, code, text) in &LONG {
+        let input = text_of(rt.alloc(), head, part, *count, last)?;
+        ends_so(rt.alloc(), why, "trace turns=1", &input, ended(*code, text))?;
     }
     Ok(())
 }

@@ -1,5 +1,5 @@
 //! Words that are no command.
-use run_examples::ends_so;
+use run_examples::{ends_so, same_ending};
 use std::test::Fail;
 use tplib_cmd::run;
 use trop_io::{MemSink, MemSource};
@@ -74,7 +74,7 @@ const LINE: &[u8] = b"tplib: bad words\n";
 fn words_that_are_no_command(rt: HostRuntime) -> Result<(), Fail> {
     let alloc = rt.alloc();
     for words in &BAD_WORDS {
-        assert!(rt; ends_so(alloc, words, b"kind", 2, b"", LINE)?, "{words}");
+        ends_so(alloc, "no command", words, b"kind", (2, b"", LINE))?;
     }
     Ok(())
 }
@@ -83,7 +83,7 @@ fn words_that_are_no_command(rt: HostRuntime) -> Result<(), Fail> {
 fn modes_that_are_no_command(rt: HostRuntime) -> Result<(), Fail> {
     let alloc = rt.alloc();
     for words in &OTHER_MODES {
-        assert!(rt; ends_so(alloc, words, b"vars;", 2, b"", LINE)?, "{words}");
+        ends_so(alloc, "no mode", words, b"vars;", (2, b"", LINE))?;
     }
     Ok(())
 }
@@ -96,8 +96,6 @@ fn no_words_at_all(rt: HostRuntime) -> Result<(), Fail> {
     let mut out = MemSink::new(alloc, 8, 8, Vec::new(alloc))?;
     let mut err = MemSink::new(alloc, 64, 8, Vec::new(alloc))?;
     let status = run(alloc, &words, &mut input, &mut out, &mut err);
-    assert_eq!(rt; status.code(), 2);
-    assert!(rt; out.bytes().is_empty());
-    assert!(rt; err.bytes() == LINE);
-    Ok(())
+    let got = (status.code(), out.bytes(), err.bytes());
+    same_ending(alloc, ("no words", b""), (2, b"", LINE), got)
 }

@@ -1,5 +1,5 @@
 //! Systems of groups of variables, with as many extreme rows as a cone may have and with more.
-use run_examples::ends_so;
+use run_examples::{ended, ends_so};
 use std::alloc::Global;
 use std::test::Fail;
 
@@ -56,11 +56,26 @@ const ANSWERED: [Groups; 3] = [
 ];
 
 // Files with one inequality too many, and the line that `ext` writes to the sink of errors.
-const REFUSED: [(&str, u8, &str); 4] = [
-    ("", 4, "tplib: limit: inequalities 4\n"),
-    ("v1 <= v1\nv2 <= v1\n", 4, "tplib: limit: inequalities 4\n"),
-    ("z <= v1\n", 3, "tplib: line 8: unknown name\n"),
-    ("v1 <= v1\nz <= v1\n", 3, "tplib: line 9: unknown name\n"),
+const REFUSED: [(&str, &str, u8, &str); 4] = [
+    ("the fifth group", "", 4, "tplib: limit: inequalities 4\n"),
+    (
+        "inequalities behind it that would undo it",
+        "v1 <= v1\nv2 <= v1\n",
+        4,
+        "tplib: limit: inequalities 4\n",
+    ),
+    (
+        "a fault of the text behind it",
+        "z <= v1\n",
+        3,
+        "tplib: line 8: unknown name\n",
+    ),
+    (
+        "a fault of the text in a later line",
+        "v1 <= v1\nz <= v1\n",
+        3,
+        "tplib: line 9: unknown name\n",
+    ),
 ];
 
 // The variables that a choice takes, one of each group from some group on, as bits. A group of k variables has k + 1
@@ -138,11 +153,7 @@ fn groups_of_variables_have_up_to_4096_extreme_rows(rt: HostRuntime) -> Result<(
     for groups in &ANSWERED {
         let input = system_of(alloc, groups.vars, groups.inequalities)?;
         let rows = extreme_rows_of(alloc, groups)?;
-        assert!(rt;
-            ends_so(alloc, "ext", &input, 0, &rows, b"")?,
-            "{}",
-            groups.inequalities
-        );
+        ends_so(alloc, groups.inequalities, "ext", &input, (0, &rows, b""))?;
     }
     Ok(())
 }
@@ -150,13 +161,10 @@ fn groups_of_variables_have_up_to_4096_extreme_rows(rt: HostRuntime) -> Result<(
 #[test]
 fn groups_of_variables_past_the_row_limit(rt: HostRuntime) -> Result<(), Fail> {
     let alloc = rt.alloc();
-    for (more, code, line) in &REFUSED {
+    for (why, more, code, line) in &REFUSED {
         let mut input = system_of(alloc, VARS_31, FIVE_GROUPS)?;
         input.extend_from_slice(more.as_bytes())?;
-        assert!(rt;
-            ends_so(alloc, "ext", &input, *code, b"", line.as_bytes())?,
-            "{more}{line}"
-        );
+        ends_so(alloc, why, "ext", &input, ended(*code, line))?;
     }
     Ok(())
 }
@@ -167,15 +175,6 @@ fn one_extreme_row_past_the_limit(rt: HostRuntime) -> Result<(), Fail> {
     let alloc = rt.alloc();
     let [groups, ..] = &ANSWERED;
     let input = system_of(alloc, VARS_32, groups.inequalities)?;
-    assert!(rt;
-        ends_so(
-            alloc,
-            "ext",
-            &input,
-            4,
-            b"",
-            b"tplib: limit: inequalities 3\n"
-        )?
-    );
-    Ok(())
+    let line = ended(4, "tplib: limit: inequalities 3\n");
+    ends_so(alloc, "one variable more", "ext", &input, line)
 }

@@ -1,7 +1,8 @@
 //! Valid files of each kind with changes that are drawn: a byte taken out, put in or exchanged, or two lines exchanged.
 //! Each run ends with an answer or with a cause that its command names, and the place of a fault lies in the file or one
 //! past its end.
-use run_examples::{Draws, split};
+use row_examples::Draws;
+use run_examples::{shown, split};
 use std::alloc::Global;
 use std::test::Fail;
 use tplib_cmd::{Status, run};
@@ -188,12 +189,18 @@ fn is_inside(alloc: Global, fault: Fault, text: &[u8]) -> Result<bool, Fail> {
     }
 }
 
-// Whether a command may end so over streams that do not fail, with words that are right and memory at hand.
-fn is_named(alloc: Global, status: Status, text: &[u8]) -> Result<bool, Fail> {
+// What is wrong with such an end over streams that do not fail, with words that are right and memory at hand: that no
+// command names it, or that the fault stands nowhere in the text.
+fn objection(alloc: Global, status: Status, text: &[u8]) -> Result<Option<String>, Fail> {
     match status {
-        Status::Done | Status::No | Status::Limit(_) | Status::Range(_) => Ok(true),
-        Status::Text(fault) => is_inside(alloc, fault, text),
-        _ => Ok(false),
+        Status::Done | Status::No | Status::Limit(_) | Status::Range(_) => Ok(None),
+        Status::Text(fault) => {
+            if is_inside(alloc, fault, text)? {
+                return Ok(None);
+            }
+            Ok(Some(format!(in alloc; "{fault}, which is no place of the text")?))
+        }
+        _ => Ok(Some(format!(in alloc; "{status:?}")?)),
     }
 }
 
@@ -215,13 +222,11 @@ fn refused(alloc: Global, draws: &mut Draws, valid: &Valid) -> Result<u32, Fail>
     for _ in 0..TIMES {
         let text = altered(alloc, draws, valid.text.as_bytes())?;
         let status = status_of(alloc, &words, &text)?;
-        if !is_named(alloc, status, &text)? {
-            let shown = std::str::from_utf8(&text).unwrap_or("bytes that are no text");
+        if let Some(wrong) = objection(alloc, status, &text)? {
             return Err(Fail::new(format!(in alloc;
-                "tplib {} ended with {}: {}",
+                "tplib {} ended with {wrong} on {}",
                 valid.words,
-                status.code(),
-                shown
+                shown(&text)
             )?));
         }
         if matches!(status, Status::Text(_)) {
@@ -239,11 +244,15 @@ fn altered_files(rt: HostRuntime) -> Result<(), Fail> {
         let status = status_of(alloc, &split(alloc, valid.words)?, valid.text.as_bytes())?;
         assert!(rt;
             matches!(status, Status::Done | Status::No),
-            "{}",
+            "{} ended with {status:?}",
             valid.words
         );
         let refused = refused(alloc, &mut draws, valid)?;
-        assert!(rt; 0 < refused && refused < TIMES, "{}", valid.words);
+        assert!(rt;
+            0 < refused && refused < TIMES,
+            "{}: {refused} of {TIMES} are refused",
+            valid.words
+        );
     }
     Ok(())
 }

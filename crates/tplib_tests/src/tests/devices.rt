@@ -1,44 +1,9 @@
 //! Sources and sinks that fail.
-use run_examples::split;
+use run_examples::{Ended, Run, leaves, same_ending, split};
 use std::alloc::Global;
 use std::test::Fail;
 use tplib_cmd::run;
 use trop_io::{MemSink, MemSource};
-
-/// A run over devices that fail: input in pieces of 16 bytes, output in pieces of 8.
-#[derive(Clone, Copy)]
-struct Run {
-    words: &'static str,
-    input: &'static str,
-    /// The room of the sink for the answer.
-    room: usize,
-    /// The numbers of the calls that fail; 0 for none.
-    read_fails: u64,
-    write_fails: u64,
-    err_fails: u64,
-}
-
-/// What such a run leaves.
-#[derive(Drop)]
-struct Left {
-    code: u8,
-    out: Vec<u8>,
-    err: Vec<u8>,
-}
-
-fn left_by(alloc: Global, case: &Run) -> Result<Left, Fail> {
-    let words = split(alloc, case.words)?;
-    let bytes = Vec::from_slice(alloc, case.input.as_bytes())?;
-    let mut input = MemSource::new(bytes, 16, vec![in alloc; case.read_fails]?);
-    let mut out = MemSink::new(alloc, case.room, 8, vec![in alloc; case.write_fails]?)?;
-    let mut err = MemSink::new(alloc, 64, 8, vec![in alloc; case.err_fails]?)?;
-    let status = run(alloc, &words, &mut input, &mut out, &mut err);
-    Ok(Left {
-        code: status.code(),
-        out: Vec::from_slice(alloc, out.bytes())?,
-        err: Vec::from_slice(alloc, err.bytes())?,
-    })
-}
 
 const POINTS: &str = "kind gens\nsemiring max\nvars x\npoint [0]\npoint [1]\npoint [2]\n";
 
@@ -53,23 +18,25 @@ const READ_FAILED: &[u8] = b"tplib: read failed\n";
 
 const WRITE_FAILED: &[u8] = b"tplib: write failed\n";
 
-const REDUCE: Run = Run {
+const REDUCE: Run<'static> = Run {
+    why: "points in a row",
     words: "reduce",
     input: POINTS,
-    room: 256,
+    room: 4096,
     read_fails: 0,
     write_fails: 0,
     err_fails: 0,
 };
 
-const EXT: Run = Run {
+const EXT: Run<'static> = Run {
+    why: "one inequality",
     words: "ext",
     input: BELOW,
     ..REDUCE
 };
 
 // The 60 bytes of the one take 4 reads, the 40 bytes of the other take 3, and the end takes one more.
-const READS: [(Run, u64); 9] = [
+const READS: [(Run<'static>, u64); 9] = [
     (REDUCE, 1),
     (REDUCE, 2),
     (REDUCE, 3),
@@ -81,30 +48,31 @@ const READS: [(Run, u64); 9] = [
     (EXT, 4),
 ];
 
+// That a run whose read of this number fails ends so. The line of errors is written whole, or cut off where the second write
+// of it fails.
+fn fails_in_read(alloc: Global, case: &Run<'_>, read_fails: u64) -> Result<(), Fail> {
+    let failing = Run {
+        read_fails,
+        ..*case
+    };
+    let cut = Run {
+        err_fails: 2,
+        ..failing
+    };
+    leaves(alloc, &failing, (6, b"", READ_FAILED))?;
+    leaves(alloc, &cut, (6, b"", b"tplib: "))
+}
+
 #[test]
 fn a_source_that_fails_at_each_call_in_turn(rt: HostRuntime) -> Result<(), Fail> {
-    let alloc = rt.alloc();
     for (case, read_fails) in &READS {
-        let left = left_by(
-            alloc,
-            &Run {
-                read_fails: *read_fails,
-                ..*case
-            },
-        )?;
-        assert_eq!(rt; left.code, 6, "{} {read_fails}", case.words);
-        assert!(rt; left.out.is_empty(), "{} {read_fails}", case.words);
-        assert!(rt;
-            left.err.as_slice() == READ_FAILED,
-            "{} {read_fails}",
-            case.words
-        );
+        fails_in_read(rt.alloc(), case, *read_fails)?;
     }
     Ok(())
 }
 
 // The 50 bytes of the one answer take 7 writes, the 73 bytes of the other 10, and each but the last takes 8 of them.
-const WRITES: [(Run, u64, &str); 17] = [
+const WRITES: [(Run<'static>, u64, &str); 17] = [
     (REDUCE, 1, ""),
     (REDUCE, 2, "kind gen"),
     (REDUCE, 3, "kind gens\nsemiri"),
@@ -144,37 +112,52 @@ const WRITES: [(Run, u64, &str); 17] = [
     ),
 ];
 
+// That a run whose write of this number fails ends so. The line of errors is written whole, or not at all where the first
+// write of it fails.
+fn fails_in_write(
+    alloc: Global,
+    case: &Run<'_>,
+    write_fails: u64,
+    front: &str,
+) -> Result<(), Fail> {
+    let failing = Run {
+        write_fails,
+        ..*case
+    };
+    let silent = Run {
+        err_fails: 1,
+        ..failing
+    };
+    leaves(alloc, &failing, (7, front.as_bytes(), WRITE_FAILED))?;
+    leaves(alloc, &silent, (7, front.as_bytes(), b""))
+}
+
 #[test]
 fn a_sink_that_fails_at_each_call_in_turn(rt: HostRuntime) -> Result<(), Fail> {
-    let alloc = rt.alloc();
     for (case, write_fails, front) in &WRITES {
-        let left = left_by(
-            alloc,
-            &Run {
-                write_fails: *write_fails,
-                ..*case
-            },
-        )?;
-        assert_eq!(rt; left.code, 7, "{} {write_fails}", case.words);
-        assert!(rt;
-            left.out.as_slice() == front.as_bytes(),
-            "{} {write_fails}",
-            case.words
-        );
-        assert!(rt;
-            left.err.as_slice() == WRITE_FAILED,
-            "{} {write_fails}",
-            case.words
-        );
+        fails_in_write(rt.alloc(), case, *write_fails, front)?;
     }
     Ok(())
 }
 
 // A run, its code, and what it leaves in its two sinks.
-const RUNS: [(Run, u8, &str, &str); 13] = [
+const RUNS: [(Run<'static>, u8, &str, &str); 14] = [
     (REDUCE, 0, REDUCED, ""),
     (
         Run {
+            why: "each call behind the last one fails",
+            read_fails: 6,
+            write_fails: 8,
+            err_fails: 1,
+            ..REDUCE
+        },
+        0,
+        REDUCED,
+        "",
+    ),
+    (
+        Run {
+            why: "no call fails, but one that is not made",
             read_fails: 6,
             ..REDUCE
         },
@@ -184,6 +167,7 @@ const RUNS: [(Run, u8, &str, &str); 13] = [
     ),
     (
         Run {
+            why: "no write fails, but one that is not made",
             write_fails: 8,
             ..REDUCE
         },
@@ -193,6 +177,7 @@ const RUNS: [(Run, u8, &str, &str); 13] = [
     ),
     (
         Run {
+            why: "the room is just enough, and the line fails",
             room: 50,
             err_fails: 1,
             ..REDUCE
@@ -202,13 +187,18 @@ const RUNS: [(Run, u8, &str, &str); 13] = [
         "",
     ),
     (
-        Run { room: 49, ..REDUCE },
+        Run {
+            why: "one byte less room",
+            room: 49,
+            ..REDUCE
+        },
         7,
         "kind gens\nsemiring max\nvars x\npoint [0]\npoint [2]",
         "tplib: write failed\n",
     ),
     (
         Run {
+            why: "little room, and the line fails",
             room: 4,
             err_fails: 1,
             ..REDUCE
@@ -219,6 +209,7 @@ const RUNS: [(Run, u8, &str, &str); 13] = [
     ),
     (
         Run {
+            why: "the end of the input fails before any write",
             read_fails: 5,
             write_fails: 1,
             ..REDUCE
@@ -229,6 +220,7 @@ const RUNS: [(Run, u8, &str, &str); 13] = [
     ),
     (
         Run {
+            why: "a read, a write and the line fail",
             read_fails: 2,
             write_fails: 1,
             err_fails: 1,
@@ -240,6 +232,7 @@ const RUNS: [(Run, u8, &str, &str); 13] = [
     ),
     (
         Run {
+            why: "a fault of the text before a failing write",
             input: "kind",
             read_fails: 3,
             write_fails: 1,
@@ -251,6 +244,7 @@ const RUNS: [(Run, u8, &str, &str); 13] = [
     ),
     (
         Run {
+            why: "a failing read before a fault of the text",
             input: "kind",
             read_fails: 2,
             write_fails: 1,
@@ -262,6 +256,7 @@ const RUNS: [(Run, u8, &str, &str); 13] = [
     ),
     (
         Run {
+            why: "an empty input, no room, and the line fails",
             input: "",
             room: 0,
             err_fails: 1,
@@ -273,6 +268,7 @@ const RUNS: [(Run, u8, &str, &str); 13] = [
     ),
     (
         Run {
+            why: "bad words before failing streams",
             words: "reduce now",
             read_fails: 1,
             write_fails: 1,
@@ -284,6 +280,7 @@ const RUNS: [(Run, u8, &str, &str); 13] = [
     ),
     (
         Run {
+            why: "bad words, and the line fails",
             words: "analyze delay=2",
             read_fails: 1,
             write_fails: 1,
@@ -298,38 +295,43 @@ const RUNS: [(Run, u8, &str, &str); 13] = [
 
 #[test]
 fn devices_that_fail_together(rt: HostRuntime) -> Result<(), Fail> {
-    let alloc = rt.alloc();
     for (case, code, out, err) in &RUNS {
-        let left = left_by(alloc, case)?;
-        assert_eq!(rt; left.code, *code);
-        assert!(rt; left.out.as_slice() == out.as_bytes());
-        assert!(rt; left.err.as_slice() == err.as_bytes());
+        leaves(rt.alloc(), case, (*code, out.as_bytes(), err.as_bytes()))?;
     }
     Ok(())
 }
 
-// What is said of an input that is longer than an input may be.
-const TOO_LONG: &str = "tplib: input longer than 4194304 bytes\n";
+// That a text with a comment behind it, of so many bytes in all, ends so.
+fn ends_at_length(
+    alloc: Global,
+    asked: (&str, &str),
+    length: usize,
+    wanted: Ended<'_>,
+) -> Result<(), Fail> {
+    let words = split(alloc, asked.0)?;
+    let mut bytes = Vec::from_slice(alloc, asked.1.as_bytes())?;
+    bytes.resize(length, b'#')?;
+    let mut input = MemSource::new(bytes, 1_048_576, Vec::new(alloc));
+    let mut answer = MemSink::new(alloc, 128, 64, Vec::new(alloc))?;
+    let mut line = MemSink::new(alloc, 64, 64, Vec::new(alloc))?;
+    let status = run(alloc, &words, &mut input, &mut answer, &mut line);
+    same_ending(
+        alloc,
+        (asked.0, asked.1.as_bytes()),
+        wanted,
+        (status.code(), answer.bytes(), line.bytes()),
+    )
+}
 
-// The longest input, a comment at its end, and one byte more.
+// The longest input, and one byte more.
 #[test]
 fn inputs_up_to_4194304_bytes(rt: HostRuntime) -> Result<(), Fail> {
     let alloc = rt.alloc();
-    for (command, length, code, out, err) in [
-        ("reduce", 4_194_304, 0, REDUCED, ""),
-        ("reduce", 4_194_305, 3, "", TOO_LONG),
-        ("ext", 4_194_305, 3, "", TOO_LONG),
-    ] {
-        let words = split(alloc, command)?;
-        let mut bytes = Vec::from_slice(alloc, POINTS.as_bytes())?;
-        bytes.resize(length, b'#')?;
-        let mut input = MemSource::new(bytes, 1_048_576, Vec::new(alloc));
-        let mut answer = MemSink::new(alloc, 64, 64, Vec::new(alloc))?;
-        let mut line = MemSink::new(alloc, 64, 64, Vec::new(alloc))?;
-        let status = run(alloc, &words, &mut input, &mut answer, &mut line);
-        assert_eq!(rt; status.code(), code);
-        assert!(rt; answer.bytes() == out.as_bytes());
-        assert!(rt; line.bytes() == err.as_bytes());
+    let too_long: Ended<'_> = (3, b"", b"tplib: input longer than 4194304 bytes\n");
+    for (words, text, answer) in [("reduce", POINTS, REDUCED), ("ext", BELOW, CONVERTED)] {
+        let answered: Ended<'_> = (0, answer.as_bytes(), b"");
+        ends_at_length(alloc, (words, text), 4_194_304, answered)?;
+        ends_at_length(alloc, (words, text), 4_194_305, too_long)?;
     }
     Ok(())
 }
@@ -340,13 +342,20 @@ fn bad_words_leave_the_input(rt: HostRuntime) -> Result<(), Fail> {
     let alloc = rt.alloc();
     let bytes = Vec::from_slice(alloc, POINTS.as_bytes())?;
     let mut input = MemSource::new(bytes, 16, Vec::new(alloc));
-    for (words, code, out) in [("reduced", 2, ""), ("reduce", 0, REDUCED)] {
-        let words = split(alloc, words)?;
+    for (words, code, out, err) in [
+        ("reduced", 2, "", "tplib: bad words\n"),
+        ("reduce", 0, REDUCED, ""),
+    ] {
+        let list = split(alloc, words)?;
         let mut answer = MemSink::new(alloc, 64, 8, Vec::new(alloc))?;
         let mut line = MemSink::new(alloc, 64, 8, Vec::new(alloc))?;
-        let status = run(alloc, &words, &mut input, &mut answer, &mut line);
-        assert_eq!(rt; status.code(), code);
-        assert!(rt; answer.bytes() == out.as_bytes());
+        let status = run(alloc, &list, &mut input, &mut answer, &mut line);
+        same_ending(
+            alloc,
+            (words, POINTS.as_bytes()),
+            (code, out.as_bytes(), err.as_bytes()),
+            (status.code(), answer.bytes(), line.bytes()),
+        )?;
     }
     Ok(())
 }
