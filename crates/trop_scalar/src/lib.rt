@@ -3,6 +3,7 @@
 #![tactic(auto)]
 
 mod flag;
+mod lanes;
 mod max_int;
 mod min_int;
 mod scalar;

@@ -1,10 +1,12 @@
 // Whole numbers with the maximum as sum.
 ghost use Rattle.std.specs.Prelude.{◌≡◌, ◌↔◌, ◌≤◌, ◌^◌, ◌+◌, true, false, None, Some, pos, IsTrue, IfSome, unsigned_abs};
 ghost use Rattle.trop_theory.specs.Sizes.{most_element};
+ghost use Rattle.trop_scalar.specs.Words.{word_value};
 ghost use Rattle.trop_theory.specs.MaxPlus.{max_numbering, max_ring, magnitude, same_element};
 ghost use Rattle.std.specs.Cmp.{partial_equiv_from_equiv};
 ghost use Rattle.trop_theory.proofs.MaxPlusLaws.{max_number_laws, max_numeric_laws, max_laws, decides_same, same_is_equivalence};
 
+use crate::lanes::{Worded, sum_by_lanes};
 use crate::{Numeric, Scalar};
 use smallvec::SmallVec;
 use std::marker::Model;
@@ -42,6 +44,14 @@ impl MaxInt {
         ensures { result ≡ Some n }
     {
         MaxInt { word: n }
+    }
+
+    // The element that is held as the word.
+    pub(crate) fn of_word(word: i64) -> MaxInt
+        requires { magnitude (word_value word) ≤ most_element }
+        ensures { result ≡ word_value word }
+    {
+        MaxInt { word }
     }
 
     // The number, which is at most 2^62 in size; none for the zero.
@@ -150,6 +160,20 @@ impl Scalar for MaxInt {
 
     fn number(self) -> Option<i64> {
         self.finite()
+    }
+
+    fn sum_of_products(coeffs: &[MaxInt], entries: &[MaxInt]) -> MaxInt {
+        MaxInt {
+            word: sum_by_lanes(coeffs, entries),
+        }
+    }
+}
+
+impl Worded for MaxInt {
+    ghost held = { λ a. a };
+
+    fn word(self) -> i64 {
+        self.word
     }
 }
 

@@ -1,12 +1,13 @@
 // Whole numbers with the minimum as sum.
 ghost use Rattle.std.specs.Prelude.{◌≡◌, ◌↔◌, ◌≤◌, ◌^◌, ◌+◌, true, false, None, Some, pos, IsTrue};
 ghost use Rattle.std.specs.Cmp.{partial_equiv_from_equiv};
-ghost use Rattle.trop_scalar.specs.MaxPlus.{max_numbering, magnitude, same_element};
+ghost use Rattle.trop_scalar.specs.MaxPlus.{max_numbering, magnitude, opposite, same_element};
 ghost use Rattle.trop_scalar.specs.MinPlus.{min_ring};
 ghost use Rattle.trop_theory.specs.Sizes.{most_element};
 ghost use Rattle.trop_theory.proofs.MaxPlusLaws.{decides_same, same_is_equivalence};
 ghost use Rattle.trop_theory.proofs.MinPlusLaws.{min_number_laws, min_numeric_laws, min_laws};
 
+use crate::lanes::{Worded, sum_by_lanes};
 use crate::{MaxInt, Numeric, Scalar};
 use smallvec::SmallVec;
 use std::marker::Model;
@@ -145,6 +146,20 @@ impl Scalar for MinInt {
             None => None,
             Some(n) => Some(-n),
         }
+    }
+
+    fn sum_of_products(coeffs: &[MinInt], entries: &[MinInt]) -> MinInt {
+        MinInt {
+            mirrored: MaxInt::of_word(sum_by_lanes(coeffs, entries)),
+        }
+    }
+}
+
+impl Worded for MinInt {
+    ghost held = { opposite };
+
+    fn word(self) -> i64 {
+        self.mirrored.word()
     }
 }
 

@@ -1,0 +1,4 @@
+mod Held
+mod Raised
+mod Sums
+mod Words
