@@ -5,3 +5,4 @@ pub mod ProgramSteps
 pub mod PartSteps
 pub mod Outcomes
 pub mod RowSteps
+pub mod Stops
