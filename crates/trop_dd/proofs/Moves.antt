@@ -146,7 +146,8 @@ module _ {V : Type 0} (sides next : List (Side V)) (order at now : List ℕ) (pl
   elsewhere i l e = absurd (omega (arith, h.index.here i l, ap (λ k. get_or at k 0) e, dead, l))
 
   -- the number of an index, at any default
-  number_within : (i : ℕ) (d : ℕ) → i < length order → (get_or order i 0 ≡ length next → ⊥) → get_or order i d < length next
+  number_within : (i : ℕ) (d : ℕ) → i < length order → (get_or order i 0 ≡ length next → ⊥) →
+      get_or order i d < length next
   number_within i d l ne = omega (arith, h.index.within i 0 l, get_or_default order i d 0 l, long, ne)
 
   index_there : (k : ℕ) → (k ≡ place → ⊥) → k < length next → get_or now k 0 ≡ get_or at k 0

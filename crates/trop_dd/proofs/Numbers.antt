@@ -93,7 +93,8 @@ module _ {V : Type 0} (sides : List (Side V)) where
   blank : Side V
   blank = record { row = []; words = record { support = 0; types = 0; cover = 0 }; slots = []; places = [] }
 
-  pub old_read : (order : List ℕ) (i : ℕ) (d : Side V) (e : List V) → i < length order → get_or order i 0 < length sides →
+  pub old_read : (order : List ℕ) (i : ℕ) (d : Side V) (e : List V) → i < length order →
+      get_or order i 0 < length sides →
       get_or (found_rows sides [] order) i e ≡ (get_or sides (get_or order i 0) d).row
   old_read order i d e l within = found_read sides [] order i e l
       ∙ ap (λ s. get_or (rows_of s) (get_or order i 0) []) (append-nil sides)

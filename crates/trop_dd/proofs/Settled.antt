@@ -320,7 +320,8 @@ module _ {V : Type 0} {R : Semiring V} (laws : SemiringLaws R) (n : ℕ) (system
         blank : Side V
         blank = record { row = []; words = record { support = 0; types = 0; cover = 0 }; slots = []; places = [] }
 
-        same : (k : ℕ) → k < length (sides ++ fresh) → (get_or h.between k blank).row ≡ (get_or (sides ++ fresh) k blank).row
+        same : (k : ℕ) → k < length (sides ++ fresh) →
+            (get_or h.between k blank).row ≡ (get_or (sides ++ fresh) k blank).row
         same k l = ⊎_elim
             (λ old. row_at (sides ++ fresh) h.between longer front h.settled k blank old
             ∙ ap (λ s. s.row) (sym (front k blank old)))

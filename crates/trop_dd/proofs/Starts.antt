@@ -97,7 +97,8 @@ start_from {V} R p sides stay order start kept dropped split numbers ascending h
       ((All-contains Passes order k h.passes (numbers.all k l)).1 (split.stay_all k d l holds)));
   ascending = subst (λ xs. AllPairs (RowBelow R) (found_rows sides [] xs)) (sym h.filtered)
       (pairs_behind (RowBelow R) row (filter h.test order) 0
-      (AllPairs-filter (λ a b. RowBelow R (row a) (row b)) h.test order (pairs_before (RowBelow R) row order ascending)));
+      (AllPairs-filter (λ a b. RowBelow R (row a) (row b)) h.test order
+      (pairs_before (RowBelow R) row order ascending)));
 }
   where
     Holds : ℕ → Type 0

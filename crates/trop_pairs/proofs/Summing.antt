@@ -157,7 +157,8 @@ module _ {V : Type 0} {R : Semiring V} (laws : SemiringLaws R) (x : List V) wher
 
     reaches : (j : ℕ) → Has sum.reached j → Attains R side x j
     reaches j here =
-        let r = All-at (IsTerm R side) terms are.each (λ t. (t.place ≡ j) × (product R x t ≡ sum.value)) (h.from j here) in
+        let r = All-at (IsTerm R side) terms are.each (λ t. (t.place ≡ j) × (product R x t ≡ sum.value)) (h.from j here)
+        in
         subst (Attains R side x) r.2.0 (own r.0 r.1 ∙ r.2.1 ∙ whole)
 
     is_reached : (j : ℕ) → dot R side x ≢ R.zero → Attains R side x j → Has sum.reached j

@@ -18,13 +18,16 @@ raised_lanes n b x y =
     let w = map (of_z w64) y in
     let s = zip2 (λ (a b : ℕ). (a + b) % 2 ^ 64) v w in
     let differs : ℕ → ℕ → ℕ = λ a b. mask (not (eqb a b)) in
-    let rises = zip2 bit_and (zip2 bit_and (zip2 differs v (replicate n (2 ^ 63))) (zip2 differs w (replicate n (2 ^ 63))))
+    let rises =
+    zip2 bit_and (zip2 bit_and (zip2 differs v (replicate n (2 ^ 63))) (zip2 differs w (replicate n (2 ^ 63))))
     (zip2 (λ (a b : ℕ). mask (int_lt (to_z w64 a) (to_z w64 b))) u s) in
     map (to_z w64) (sel_l (map (top 63) rises) s u)
 
-pub raised_values : (n : ℕ) (b x y : List ℤ) → length b ≡ n → length x ≡ n → length y ≡ n → row_size max_ring (map word_value b) ≤ most_element →
+pub raised_values : (n : ℕ) (b x y : List ℤ) → length b ≡ n → length x ≡ n → length y ≡ n →
+    row_size max_ring (map word_value b) ≤ most_element →
     row_size max_ring (map word_value x) + row_size max_ring (map word_value y) ≤ most_element →
-    map word_value (raised_lanes n b x y) ≡ joined max_ring (map word_value b) (products max_ring (map word_value x) (map word_value y))
+    map word_value (raised_lanes n b x y) ≡
+    joined max_ring (map word_value b) (products max_ring (map word_value x) (map word_value y))
 raised_values zero [] [] [] p q r h k = refl
 raised_values zero (a ∷ b) x y p q r h k = absurd (omega arith)
 raised_values zero [] (a ∷ x) y p q r h k = absurd (omega arith)
@@ -33,9 +36,11 @@ raised_values (suc n) [] x y p q r h k = absurd (omega arith)
 raised_values (suc n) (a ∷ b) [] y p q r h k = absurd (omega arith)
 raised_values (suc n) (a ∷ b) (c ∷ x) [] p q r h k = absurd (omega arith)
 raised_values (suc n) (a ∷ b) (c ∷ x) (d ∷ y) p q r h k =
-    ap₂ ◌∷◌ (lane_value a c d (omega arith) (omega arith)) (raised_values n b x y (omega arith) (omega arith) (omega arith) (omega arith) (omega arith))
+    ap₂ ◌∷◌ (lane_value a c d (omega arith) (omega arith))
+    (raised_values n b x y (omega arith) (omega arith) (omega arith) (omega arith) (omega arith))
 
-pub length-raised : (n : ℕ) (b x y : List ℤ) → length b ≡ n → length x ≡ n → length y ≡ n → length (raised_lanes n b x y) ≡ n
+pub length-raised : (n : ℕ) (b x y : List ℤ) → length b ≡ n → length x ≡ n → length y ≡ n →
+    length (raised_lanes n b x y) ≡ n
 length-raised zero [] [] [] p q r = refl
 length-raised zero (a ∷ b) x y p q r = absurd (omega arith)
 length-raised zero [] (a ∷ x) y p q r = absurd (omega arith)
@@ -43,4 +48,5 @@ length-raised zero [] [] (a ∷ y) p q r = absurd (omega arith)
 length-raised (suc n) [] x y p q r = absurd (omega arith)
 length-raised (suc n) (a ∷ b) [] y p q r = absurd (omega arith)
 length-raised (suc n) (a ∷ b) (c ∷ x) [] p q r = absurd (omega arith)
-length-raised (suc n) (a ∷ b) (c ∷ x) (d ∷ y) p q r = ap suc (length-raised n b x y (omega arith) (omega arith) (omega arith))
+length-raised (suc n) (a ∷ b) (c ∷ x) (d ∷ y) p q r =
+    ap suc (length-raised n b x y (omega arith) (omega arith) (omega arith))

@@ -94,7 +94,8 @@ sizes_of_parts i n u v p q a b h =
 
 pub raised_more : (u v : List (Option ℤ)) (i : ℕ) (best next : List ℤ) (p q : List (Option ℤ)) → i + 8 ≤ length u →
     length u ≡ length v → row_size max_ring u + row_size max_ring v ≤ most_element → length next ≡ 8 →
-    p ≡ chunk i 8 u → q ≡ chunk i 8 v → map word_value next ≡ joined max_ring (map word_value best) (products max_ring p q) →
+    p ≡ chunk i 8 u → q ≡ chunk i 8 v →
+    map word_value next ≡ joined max_ring (map word_value best) (products max_ring p q) →
     AreSummed u v i best → AreSummed u v (i + 8) next
 raised_more u v i best next p q l e h n a b raised k = record {
   long = n;

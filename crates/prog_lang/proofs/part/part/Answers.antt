@@ -8,4 +8,4 @@ pub returns-in_err-closing-clause-gives : goal.returns-in_err-closing-clause-giv
 returns-in_err-closing-clause-gives c =
     let p = err_from_is_err_and c.from_residual-in_err-closing.result c.from_residual-in_err-closing.ensures.1 in
     rw (p.1, p.2) (fails_from _ _ _ c.in_err-closing.ensures
-      (λ miss e. part_stops (rule_of c.args.rule) _ _ _ miss c.in_ok-program.ensures.gives e))
+    (λ miss e. part_stops (rule_of c.args.rule) _ _ _ miss c.in_ok-program.ensures.gives e))

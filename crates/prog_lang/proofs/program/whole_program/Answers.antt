@@ -8,4 +8,4 @@ pub returns-in_err-rest : goal.returns-in_err-rest
 returns-in_err-rest c =
     let p = err_from_is_err_and c.from_residual-in_err-rest.result c.from_residual-in_err-rest.ensures.1 in
     rw (p.1, p.2) (fails_from _ _ _ c.in_err-rest.ensures
-      (λ miss e. whole_stops (rule_of c.args.rule) _ _ _ miss c.in_ok-program.ensures.gives e))
+    (λ miss e. whole_stops (rule_of c.args.rule) _ _ _ miss c.in_ok-program.ensures.gives e))

@@ -78,7 +78,8 @@ admit-requires g c = record {
 
 pub returns-in-None-clause-grows : goal.returns-in-None-clause-grows
 returns-in-None-clause-grows g c = grows_none (found_rows c.args.sides.now c.args.found.now.fresh.items
-    c.args.found.now.order.items) c.args.looks.now c.judge.new.looks (omega (arith, c.fades.ensures.kept, c.judge.ensures.kept))
+    c.args.found.now.order.items) c.args.looks.now c.judge.new.looks
+    (omega (arith, c.fades.ensures.kept, c.judge.ensures.kept))
 
 pub returns-in-None-clause-given : goal.returns-in-None-clause-given
 returns-in-None-clause-given g c = none_given g.met.S.Scalar.ring_laws c.args.system.now.n

@@ -13,35 +13,43 @@ closed_by-start-requires g c = record {
 }
 
 pub covered-early-requires-clause-first_within : goal.covered-early-requires-clause-first_within
-covered-early-requires-clause-first_within g c = places_in g.met.S.Scalar.ring_laws _ _ c.args.first.now c.args.first.now _ _
+covered-early-requires-clause-first_within g c =
+    places_in g.met.S.Scalar.ring_laws _ _ c.args.first.now c.args.first.now _ _
     c.requires.pair.first c.requires.pair.first c.places.ensures c.slots-before.ensures
 
 pub covered-early-requires-clause-second_within : goal.covered-early-requires-clause-second_within
-covered-early-requires-clause-second_within g c = places_in g.met.S.Scalar.ring_laws _ _ c.args.first.now c.args.second.now _ _
+covered-early-requires-clause-second_within g c =
+    places_in g.met.S.Scalar.ring_laws _ _ c.args.first.now c.args.second.now _ _
     c.requires.pair.first c.requires.pair.second c.places.ensures c.slots-after.ensures
 
 pub covered-early-requires-clause-some : goal.covered-early-requires-clause-some
-covered-early-requires-clause-some g c = subst (All (λ s. HasEdge s → (j : ℕ) × Has s.tail j)) (sym c.slots-before.ensures)
+covered-early-requires-clause-some g c =
+    subst (All (λ s. HasEdge s → (j : ℕ) × Has s.tail j)) (sym c.slots-before.ensures)
     (tails_of g.met.S.Scalar.ring_laws _ _ c.args.first.now c.requires.pair.inside c.requires.pair.first)
 
 pub covered-some-requires-clause-first_within : goal.covered-some-requires-clause-first_within
-covered-some-requires-clause-first_within g c = places_in g.met.S.Scalar.ring_laws _ _ c.args.first.now c.args.first.now _ _
+covered-some-requires-clause-first_within g c =
+    places_in g.met.S.Scalar.ring_laws _ _ c.args.first.now c.args.first.now _ _
     c.requires.pair.first c.requires.pair.first c.places-2.ensures c.slots-before.ensures
 
 pub covered-some-requires-clause-second_within : goal.covered-some-requires-clause-second_within
-covered-some-requires-clause-second_within g c = places_in g.met.S.Scalar.ring_laws _ _ c.args.first.now c.args.second.now _ _
+covered-some-requires-clause-second_within g c =
+    places_in g.met.S.Scalar.ring_laws _ _ c.args.first.now c.args.second.now _ _
     c.requires.pair.first c.requires.pair.second c.places-2.ensures c.slots-after.ensures
 
 pub covered-some-requires-clause-some : goal.covered-some-requires-clause-some
-covered-some-requires-clause-some g c = subst (All (λ s. HasEdge s → (j : ℕ) × Has s.tail j)) (sym c.slots-before.ensures)
+covered-some-requires-clause-some g c =
+    subst (All (λ s. HasEdge s → (j : ℕ) × Has s.tail j)) (sym c.slots-before.ensures)
     (tails_of g.met.S.Scalar.ring_laws _ _ c.args.first.now c.requires.pair.inside c.requires.pair.first)
 
 pub covered-all-requires-clause-first_within : goal.covered-all-requires-clause-first_within
-covered-all-requires-clause-first_within g c = places_in g.met.S.Scalar.ring_laws _ _ c.args.second.now c.args.second.now _ _
+covered-all-requires-clause-first_within g c =
+    places_in g.met.S.Scalar.ring_laws _ _ c.args.second.now c.args.second.now _ _
     c.requires.pair.second c.requires.pair.second c.places-3.ensures c.slots-after.ensures
 
 pub covered-all-requires-clause-second_within : goal.covered-all-requires-clause-second_within
-covered-all-requires-clause-second_within g c = places_in g.met.S.Scalar.ring_laws _ _ c.args.second.now c.args.first.now _ _
+covered-all-requires-clause-second_within g c =
+    places_in g.met.S.Scalar.ring_laws _ _ c.args.second.now c.args.first.now _ _
     c.requires.pair.second c.requires.pair.first c.places-3.ensures c.slots-before.ensures
 
 pub covered-all-requires-clause-some : goal.covered-all-requires-clause-some

@@ -10,13 +10,15 @@ loop-term-init g c = sum_first g.met.S.Scalar.ring_laws c.as_slice-entries.resul
 pub times-product-requires : goal.times-product-requires
 times-product-requires g c = size_fits g.S.Scalar.ring c.as_slice-entries.result.now c.args.terms.now
     c.loop-term.term-index c.term-item.result c.index-entries-term.result c.loop-term-test.true c.term-item.is
-    (subst (λ y. All (Fits g.S.Scalar.ring y) c.args.terms.now) (sym c.as_slice-entries.ensures.entries) c.requires) c.index-entries-term.is
+    (subst (λ y. All (Fits g.S.Scalar.ring y) c.args.terms.now) (sym c.as_slice-entries.ensures.entries) c.requires)
+    c.index-entries-term.is
 
 pub loop-term-preserved : goal.loop-term-preserved
 loop-term-preserved g c = sum_next g.met.S.Scalar.ring_laws c.as_slice-entries.result.now c.args.terms.now
     c.loop-term.term-index c.term-item.result c.index-entries-term.result c.times-product.result c.loop-term.sum
     c.with_product-sum.result c.loop-term-test.true c.term-item.is
-    (subst (λ y. All (Fits g.S.Scalar.ring y) c.args.terms.now) (sym c.as_slice-entries.ensures.entries) c.requires) c.index-entries-term.is
+    (subst (λ y. All (Fits g.S.Scalar.ring y) c.args.terms.now) (sym c.as_slice-entries.ensures.entries) c.requires)
+    c.index-entries-term.is
     c.times-product.ensures c.loop-term.invariant c.with_product-sum.ensures.value c.with_product-sum.ensures.reached
 
 pub returns-then-is_zero : goal.returns-then-is_zero

@@ -7,13 +7,20 @@ pub times-requires : goal.times-requires
 times-requires g c =
     let R = g.S.Scalar.ring in
     let laws = g.met.S.Scalar.ring_laws in
-    omega (arith, ap R.size c.delta.ensures, ap R.size c.get.ensures, laws.size_delta, size_entry laws c.args.row.now c.args.t)
+    omega (
+      arith,
+      ap R.size c.delta.ensures,
+      ap R.size c.get.ensures,
+      laws.size_delta,
+      size_entry laws c.args.row.now c.args.t,
+    )
 
 pub times-requires-else-is_zero : goal.times-requires-else-is_zero
 times-requires-else-is_zero g c =
     let R = g.S.Scalar.ring in
     let laws = g.met.S.Scalar.ring_laws in
-    let finite : entry R c.args.row.now c.args.j ≢ R.zero = λ z. true≢false (sym (c.is_zero.ensures.1 (c.get-here.ensures ∙ z)) ∙ c.if-is_zero.false) in
+    let finite : entry R c.args.row.now c.args.j ≢ R.zero =
+    λ z. true≢false (sym (c.is_zero.ensures.1 (c.get-here.ensures ∙ z)) ∙ c.if-is_zero.false) in
     omega (
       arith,
       ap R.size (c.times.ensures ∙ ap₂ R.times c.delta.ensures c.get.ensures),

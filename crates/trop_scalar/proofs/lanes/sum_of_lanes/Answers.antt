@@ -15,7 +15,8 @@ use Rattle.trop_scalar.proofs.lanes.sum_of_lanes.Goals as goal
 abbrev read : List ℤ → List ℤ
 read lanes = map (to_z w64) (map (of_z w64) lanes)
 
-size_read : (lanes : List ℤ) (i : ℕ) → i < length (read lanes) → row_size max_ring (map word_value lanes) ≤ most_element →
+size_read : (lanes : List ℤ) (i : ℕ) → i < length (read lanes) →
+    row_size max_ring (map word_value lanes) ≤ most_element →
     magnitude (word_value (slice_index_or (read lanes) i (pos 0))) ≤ most_element
 size_read lanes i l h =
     omega (
@@ -25,10 +26,12 @@ size_read lanes i l h =
       h,
     )
 
-long_read : (lanes : List ℤ) → length lanes ≡ 8 → row_size max_ring (map word_value lanes) ≤ most_element → length (read lanes) ≡ 8
+long_read : (lanes : List ℤ) → length lanes ≡ 8 → row_size max_ring (map word_value lanes) ≤ most_element →
+    length (read lanes) ≡ 8
 long_read lanes e h = ap length (words_back lanes h) ∙ e
 
-word_read : (lanes : List ℤ) (i : ℕ) → i < length (read lanes) → row_size max_ring (map word_value lanes) ≤ most_element →
+word_read : (lanes : List ℤ) (i : ℕ) → i < length (read lanes) →
+    row_size max_ring (map word_value lanes) ≤ most_element →
     let w = slice_index_or (read lanes) i (pos 0) in to_z w64 (of_z w64 w) ≡ w
 word_read lanes i l h = to_z-of_z w64 _ (fits_word _ (size_read lanes i l h))
 
@@ -48,7 +51,8 @@ loop-i-preserved c =
     let w = slice_index_or words c.loop-i.i (pos 0) in
     let within : c.loop-i.i < length words = omega (arith, long_read c.args.lanes c.requires.length c.requires.size) in
     let back = to_z-of_z w64 c.greater-sum.result (fits_word c.greater-sum.result c.greater-sum.ensures.size) in
-    rw back (sum_more (total max_ring (map word_value words)) (word_value w) _ _ (to_z w64 c.loop-i.sum-bits) c.greater-sum.result
+    rw back (sum_more (total max_ring (map word_value words)) (word_value w) _ _ (to_z w64 c.loop-i.sum-bits)
+    c.greater-sum.result
     (total_at word_value words c.loop-i.i (pos 0) within)
     (c.greater-sum.ensures.sum ∙ ap (λ z. max_plus (word_value (to_z w64 c.loop-i.sum-bits)) (word_value z))
     (word_read c.args.lanes c.loop-i.i within c.requires.size))
