@@ -1,5 +1,5 @@
 //! Whether a row is a combination of others.
-ghost use Rattle.std.specs.Prelude.{◌≡◌, ◌≢◌, ◌<◌, ◌≤◌, ◌↔◌, IsTrue, MatchOption, IfSome, IsNone, length, Any};
+ghost use Rattle.std.specs.Prelude.{◌≡◌, ◌≢◌, ◌<◌, ◌≤◌, ◌↔◌, List, IsTrue, MatchOption, IfSome, IsNone, length, Any, slice_index_or};
 ghost use Rattle.trop_theory.specs.Sizes.{most_entry};
 ghost use Rattle.trop_theory.specs.Vectors.{entry, row_size, rows_size, AreWide};
 ghost use Rattle.trop_theory.specs.Combinations.{IsCombination};
@@ -10,8 +10,27 @@ use crate::gens::Gens;
 use crate::row::Row;
 use trop_scalar::Scalar;
 
-// Whether a multiple of some row lies below the target and meets its entry t.
-pub(crate) fn some_meets_of<S: Scalar>(rows: &[Row<S>], target: &[S], t: usize) -> bool
+// The place of a row of which a multiple lies below the target and meets its entry t.
+pub(crate) fn row_that_meets<S: Scalar>(rows: &[Row<S>], target: &[S], t: usize) -> Option<usize>
+    requires wide { AreWide (length target.now) rows.now }
+    requires within { t < length target.now }
+    requires finite { entry S.ring target.now t ≢ S.ring.zero }
+    requires row_sizes { rows_size S.ring rows.now ≤ most_entry }
+    requires target_size { row_size S.ring target.now ≤ most_entry }
+    ensures within { IfSome result (λ i. i < length rows.now) }
+    ensures meets { MatchOption result (Any (Meets S.ring target.now t) rows.now → ⊥)
+        (λ i. (d : List S) → Meets S.ring target.now t (slice_index_or rows.now i d)) }
+{
+    for i in 0..rows.len() {
+        if meets_at(rows[i].as_slice(), target, t) {
+            return Some(i);
+        }
+    }
+    None
+}
+
+// Whether there is such a row.
+fn some_meets_of<S: Scalar>(rows: &[Row<S>], target: &[S], t: usize) -> bool
     requires wide { AreWide (length target.now) rows.now }
     requires within { t < length target.now }
     requires finite { entry S.ring target.now t ≢ S.ring.zero }
@@ -19,12 +38,7 @@ pub(crate) fn some_meets_of<S: Scalar>(rows: &[Row<S>], target: &[S], t: usize) 
     requires target_size { row_size S.ring target.now ≤ most_entry }
     ensures { IsTrue result ↔ Any (Meets S.ring target.now t) rows.now }
 {
-    for row in rows {
-        if meets_at(row.as_slice(), target, t) {
-            return true;
-        }
-    }
-    false
+    row_that_meets(rows, target, t).is_some()
 }
 
 /// Whether a multiple of the row lies below the target and meets its entry at `t`, which is finite.
