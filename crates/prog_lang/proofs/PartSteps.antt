@@ -39,27 +39,39 @@ judged_as b t us = judged (cond b (Ok tt) (Err Syntax)) t us
 not_kept : (v : Closing) (x y : Named × List Counted) → v ≡ none_left → kept v x.0 x.1 ≡ Ok y → ⊥
 not_kept v x y e h = let z = ap (λ (w : Closing). kept w x.0 x.1) (sym e) ∙ h in cc
 
-kept_closes : (b : Bool) (t : Counted) (us : List Counted) (x y : Named × List Counted) → kept (judged_as b t us) x.0 x.1 ≡ Ok y → b ≡ true
+kept_closes : (b : Bool) (t : Counted) (us : List Counted) (x y : Named × List Counted) →
+    kept (judged_as b t us) x.0 x.1 ≡ Ok y → b ≡ true
 kept_closes true t us x y e = refl
 kept_closes false t us x y e = absurd cc
 
-closes_at : (ts p : List Counted) (x y : Named × List Counted) → past skipped ts ≡ p → kept (token_past skipped Syntax closed ts) x.0 x.1 ≡ Ok y → IsClosing ts
+closes_at : (ts p : List Counted) (x y : Named × List Counted) → past skipped ts ≡ p →
+    kept (token_past skipped Syntax closed ts) x.0 x.1 ≡ Ok y → IsClosing ts
 unfolding token_past token_at
 closes_at ts [] x y e h = absurd (not_kept (token_past skipped Syntax closed ts) x y (ap (token_at Syntax closed) e) h)
-closes_at ts (t ∷ us) x y e h = record { token = t; behind = us; whole = e; is = kept_closes (closes t) t us x y (sym (ap (λ z. kept (token_at Syntax closed z) x.0 x.1) e) ∙ h) }
+closes_at ts (t ∷ us) x y e h =
+    record {
+      token = t;
+      behind = us;
+      whole = e;
+      is = kept_closes (closes t) t us x y (sym (ap (λ z. kept (token_at Syntax closed z) x.0 x.1) e) ∙ h);
+    }
 
 same_read : (x y : Named × List Counted) (v : Reading Counted FaultKind (Unit {0})) → kept v x.0 x.1 ≡ Ok y → x.1 ≡ y.1
 same_read x y (Ok u) e = let z : (x.0, x.1) ≡ y = cc in ap (λ (w : Named × List Counted). w.1) z
 same_read x y (Err miss) e = absurd cc
 
-part_closes : (y : Named × List Counted) (v : Reading Counted FaultKind Named) → go_on v before_closing ≡ Ok y → IsClosing y.1
+part_closes : (y : Named × List Counted) (v : Reading Counted FaultKind Named) → go_on v before_closing ≡ Ok y →
+    IsClosing y.1
 unfolding before_closing
-part_closes y (Ok x) e = subst IsClosing (same_read x y (token_past skipped Syntax closed x.1) e) (closes_at x.1 (past skipped x.1) x y refl e)
+part_closes y (Ok x) e =
+    subst IsClosing (same_read x y (token_past skipped Syntax closed x.1) e)
+    (closes_at x.1 (past skipped x.1) x y refl e)
 part_closes y (Err miss) e = absurd cc
 
 -- ---- the tokens that are left
 
-left_tokens : (b : Bool) (toks : List Tok) (line : ℕ) (p : Piece) (ps : List Piece) → cond b [] (pieces_from toks line) ≡ p ∷ ps → tokens_in (cond b [] (pieces_from toks line)) ≡ toks
+left_tokens : (b : Bool) (toks : List Tok) (line : ℕ) (p : Piece) (ps : List Piece) →
+    cond b [] (pieces_from toks line) ≡ p ∷ ps → tokens_in (cond b [] (pieces_from toks line)) ≡ toks
 left_tokens true toks line p ps e = absurd cc
 left_tokens false toks line p ps e = tokens_stay toks line
 
@@ -81,20 +93,36 @@ some_piece at [] e h = absurd (clash (sym (past_nothing (left at) none) ∙ h.wh
     clash k = cc
 some_piece at (p ∷ ps) e h = record { first = p; others = ps; whole = refl }
 
-stands_at : (at : At) → IsClosing (left at) → tokens_in (map (λ (t : Counted). t.piece) (left at)) ≡ tokens_left at.pieces
+stands_at : (at : At) → IsClosing (left at) → tokens_in (map (λ (t : Counted). t.piece) (left at)) ≡
+    tokens_left at.pieces
 stands_at at h =
     let s = some_piece at (pieces_left at.pieces) refl h in
-    ap tokens_in (counted_pieces (before_of at.before) (pieces_left at.pieces)) ∙ left_tokens at.pieces.ended (tokens_left at.pieces) at.pieces.line s.first s.others s.whole
+    ap tokens_in (counted_pieces (before_of at.before) (pieces_left at.pieces))
+    ∙ left_tokens at.pieces.ended (tokens_left at.pieces) at.pieces.line s.first s.others s.whole
 
 -- ---- what is promised
 
-pub part_read_is : (rule : AssertRule) (old : List Tok) (start : List Counted) (p : Named) (at : At) (new : List Tok) → start ≡ part_pieces old → part_at program_limits rule start ≡ Ok (p, left at) → new ≡ tokens_left at.pieces → IsReadPart rule old p new
+pub part_read_is : (rule : AssertRule) (old : List Tok) (start : List Counted) (p : Named) (at : At) (new : List Tok) →
+    start ≡ part_pieces old → part_at program_limits rule start ≡ Ok (p, left at) → new ≡ tokens_left at.pieces →
+    IsReadPart rule old p new
 unfolding part_at read_then
 part_read_is rule old start p at new s e n =
-    let read : part_at program_limits rule (part_pieces old) ≡ Ok (p, left at) = ap (part_at program_limits rule) (sym s) ∙ e in
+    let read : part_at program_limits rule (part_pieces old) ≡ Ok (p, left at) =
+    ap (part_at program_limits rule) (sym s) ∙ e in
     let h = part_found program_limits rule (part_pieces old) p (left at) read in
     let ends = part_closes (p, left at) (program_at program_limits rule start) e in
-    record { front = h.taken; rest = left at; whole = h.whole; is = h.is; ends = ends; stands = stands_at at ends ∙ sym n }
+    record {
+      front = h.taken;
+      rest = left at;
+      whole = h.whole;
+      is = h.is;
+      ends = ends;
+      stands = stands_at at ends
+          ∙ sym n;
+    }
 
-pub part_spelled : (rule : AssertRule) (old : List Tok) (start front rest : List Counted) (p : Named) → start ≡ part_pieces old → part_pieces old ≡ front ++ rest → IsProgram program_limits rule front p → IsClosing rest → part_at program_limits rule (part_pieces old) ≡ Ok (p, rest)
-part_spelled rule old start front rest p s e h k = ap (part_at program_limits rule) e ∙ part_only program_limits rule front rest p k.token k.behind h k.whole k.is
+pub part_spelled : (rule : AssertRule) (old : List Tok) (start front rest : List Counted) (p : Named) →
+    start ≡ part_pieces old → part_pieces old ≡ front ++ rest → IsProgram program_limits rule front p → IsClosing rest →
+    part_at program_limits rule (part_pieces old) ≡ Ok (p, rest)
+part_spelled rule old start front rest p s e h k =
+    ap (part_at program_limits rule) e ∙ part_only program_limits rule front rest p k.token k.behind h k.whole k.is

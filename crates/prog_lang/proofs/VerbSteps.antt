@@ -16,9 +16,14 @@ given many v = Some (cond many (Err TooManyStatements) v)
 
 abbrev chosen : (a b c d e f g many : Bool) → Result Verb FaultKind → Judged
 chosen a b c d e f g many v =
-    cond a (given many (Ok Havocs)) (cond b (given many (Ok Assumes)) (cond c (given many (Ok Asserts)) (cond d (given many (Ok Asks)) (cond e (given many (Ok Loops)) (cond f (given many (Ok Skips)) (cond g (given many v) None))))))
+    cond a (given many (Ok Havocs))
+    (cond b (given many (Ok Assumes))
+    (cond c (given many (Ok Asserts))
+    (cond d (given many (Ok Asks))
+    (cond e (given many (Ok Loops)) (cond f (given many (Ok Skips)) (cond g (given many v) None))))))
 
-many_chosen : (a b c d e f g : Bool) (v : Result Verb FaultKind) → (a || b || c || d || e || f || g) ≡ true → chosen a b c d e f g true v ≡ Some (Err TooManyStatements)
+many_chosen : (a b c d e f g : Bool) (v : Result Verb FaultKind) → (a || b || c || d || e || f || g) ≡ true →
+    chosen a b c d e f g true v ≡ Some (Err TooManyStatements)
 many_chosen true b c d e f g v h = refl
 many_chosen false true c d e f g v h = refl
 many_chosen false false true d e f g v h = refl
@@ -28,7 +33,8 @@ many_chosen false false false false false true g v h = refl
 many_chosen false false false false false false true v h = refl
 many_chosen false false false false false false false v h = absurd cc
 
-none_chosen : (a b c d e f g many : Bool) (v : Result Verb FaultKind) → (a || b || c || d || e || f || g) ≡ false → chosen a b c d e f g many v ≡ None
+none_chosen : (a b c d e f g many : Bool) (v : Result Verb FaultKind) → (a || b || c || d || e || f || g) ≡ false →
+    chosen a b c d e f g many v ≡ None
 none_chosen true b c d e f g many v h = absurd cc
 none_chosen false true c d e f g many v h = absurd cc
 none_chosen false false true d e f g many v h = absurd cc
@@ -39,13 +45,20 @@ none_chosen false false false false false false true many v h = absurd cc
 none_chosen false false false false false false false many v h = refl
 
 module _ (L : Limits) (names : List (List ℕ)) (t : Counted) where
-  whole : (many : Bool) → is_one_too_many L t ≡ many → verb L names t ≡ chosen (says (codes "havoc") t) (says (codes "assume") t) (says (codes "assert") t) (says (codes "if") t) (says (codes "while") t) (says (codes "skip") t) (is_variable t) many (passed Sets (known names t))
+  whole : (many : Bool) → is_one_too_many L t ≡ many →
+      verb L names t ≡ chosen (says (codes "havoc") t) (says (codes "assume") t) (says (codes "assert") t)
+      (says (codes "if") t) (says (codes "while") t) (says (codes "skip") t) (is_variable t) many
+      (passed Sets (known names t))
   whole many e = rw e refl
 
   -- one statement more than there may be
   pub verb_many : is_start t ≡ true → is_one_too_many L t ≡ true → verb L names t ≡ Some (Err TooManyStatements)
-  verb_many h e = whole true e ∙ many_chosen (says (codes "havoc") t) (says (codes "assume") t) (says (codes "assert") t) (says (codes "if") t) (says (codes "while") t) (says (codes "skip") t) (is_variable t) (passed Sets (known names t)) h
+  verb_many h e = whole true e
+      ∙ many_chosen (says (codes "havoc") t) (says (codes "assume") t) (says (codes "assert") t) (says (codes "if") t)
+      (says (codes "while") t) (says (codes "skip") t) (is_variable t) (passed Sets (known names t)) h
 
   -- no statement
   pub verb_none : is_start t ≡ false → verb L names t ≡ None
-  verb_none h = none_chosen (says (codes "havoc") t) (says (codes "assume") t) (says (codes "assert") t) (says (codes "if") t) (says (codes "while") t) (says (codes "skip") t) (is_variable t) (is_one_too_many L t) (passed Sets (known names t)) h
+  verb_none h = none_chosen (says (codes "havoc") t) (says (codes "assume") t) (says (codes "assert") t)
+      (says (codes "if") t) (says (codes "while") t) (says (codes "skip") t) (is_variable t) (is_one_too_many L t)
+      (passed Sets (known names t)) h

@@ -42,6 +42,7 @@ IsNameFault old name ReportFault = ⊥
 -- the name is put behind these, and the reader goes on with the rest; or it stands where the name is wrong
 abbrev pub Adds : List (List ℕ) → List ℕ → At → At → Result (Option At) ReadErr → List (List ℕ) → Type 0
 Adds old name here rest (Ok None) new = ⊥
-Adds old name here rest (Ok (Some at)) new = (at ≡ rest) × (nat_le 63 (length old) ≡ false) × (place_of name old ≡ None) × (new ≡ old ++ name ∷ [])
+Adds old name here rest (Ok (Some at)) new =
+    (at ≡ rest) × (nat_le 63 (length old) ≡ false) × (place_of name old ≡ None) × (new ≡ old ++ name ∷ [])
 Adds old name here rest (Err errors.NoMemory) new = Unit {0}
 Adds old name here rest (Err (errors.Wrong what at)) new = (at ≡ here) × IsNameFault old name what

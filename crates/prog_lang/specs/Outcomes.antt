@@ -33,9 +33,12 @@ abbrev pub IsPlaced : List ℕ → ReadErr → TextErr → Type 0
 IsPlaced bytes errors.NoMemory told = told ≡ texts.NoMemory
 IsPlaced bytes (errors.Wrong what at) told = told ≡ texts.Fault (fault_before bytes what (pieces_left at.pieces))
 
--- The first fault of these pieces of a source as a text of the grammar R, at its place: its kind is what the judges of the
+-- The first fault of these pieces of a source as a text of the grammar R, at its place: its kind is what the judges of
+-- the
 -- reading function say of the token there. A syntax fault is one of the shape, and any other has its cause.
-pub record IsFaultIn {A : Type 0} (R : List Counted → A → Type 0) (shape : Shape Counted Noun) (C : FaultKind → List Counted → Counted → Type 0) (read : List Counted → Reading Counted FaultKind A) (bytes : List ℕ) (ts : List Counted) (f : Fault) : Type 0 where
+pub record IsFaultIn {A : Type 0} (R : List Counted → A → Type 0) (shape : Shape Counted Noun) (C : FaultKind →
+    List Counted → Counted → Type 0) (read : List Counted → Reading Counted FaultKind A) (bytes : List ℕ)
+    (ts : List Counted) (f : Fault) : Type 0 where
   pub kind : FaultKind
   pub rest : List Counted
   pub is : f ≡ fault_before bytes kind (map (λ (t : Counted). t.piece) rest)
@@ -43,14 +46,17 @@ pub record IsFaultIn {A : Type 0} (R : List Counted → A → Type 0) (shape : S
   pub judged : read ts ≡ Err (record { what = kind; rest = rest })
 
 -- why a text is refused; want of memory is free
-abbrev pub IsRefusalIn : {A : Type 0} → (List Counted → A → Type 0) → Shape Counted Noun → (FaultKind → List Counted → Counted → Type 0) → (List Counted → Reading Counted FaultKind A) → List ℕ → List Counted → TextErr → Type 0
+abbrev pub IsRefusalIn : {A : Type 0} → (List Counted → A → Type 0) → Shape Counted Noun →
+    (FaultKind → List Counted → Counted → Type 0) → (List Counted → Reading Counted FaultKind A) → List ℕ →
+    List Counted → TextErr → Type 0
 IsRefusalIn R shape C read bytes ts texts.NoMemory = Unit {0}
 IsRefusalIn R shape C read bytes ts (texts.Fault f) = IsFaultIn R shape C read bytes ts f
 
 -- why a program is refused
 abbrev pub IsProgramRefusal : AssertRule → List ℕ → TextErr → Type 0
 IsProgramRefusal rule bytes e =
-    IsRefusalIn (IsWholeProgram program_limits rule) whole_program (IsProgramCause program_limits rule) (whole_program_at program_limits rule) bytes (program_pieces bytes) e
+    IsRefusalIn (IsWholeProgram program_limits rule) whole_program (IsProgramCause program_limits rule)
+    (whole_program_at program_limits rule) bytes (program_pieces bytes) e
 
 -- ---- programs that are a part of a text
 
@@ -65,7 +71,8 @@ pub record IsClosing (ts : List Counted) : Type 0 where
 abbrev pub part_pieces : List Tok → List Counted
 part_pieces old = counted nothing_before (pieces_from old 0)
 
--- The first of the tokens `old` spell the program; the others are the tokens `new`, which begin with `end` or `start`, or
+-- The first of the tokens `old` spell the program; the others are the tokens `new`, which begin with `end` or `start`,
+-- or
 -- there is none.
 pub record IsReadPart (rule : AssertRule) (old : List Tok) (p : Named) (new : List Tok) : Type 0 where
   pub front : List Counted
@@ -77,4 +84,6 @@ pub record IsReadPart (rule : AssertRule) (old : List Tok) (p : Named) (new : Li
 
 -- why it is refused
 abbrev pub IsPartRefusal : AssertRule → List ℕ → List Tok → TextErr → Type 0
-IsPartRefusal rule bytes old e = IsRefusalIn (IsClosed program_limits rule) closed_program (IsProgramCause program_limits rule) (part_at program_limits rule) bytes (part_pieces old) e
+IsPartRefusal rule bytes old e =
+    IsRefusalIn (IsClosed program_limits rule) closed_program (IsProgramCause program_limits rule)
+    (part_at program_limits rule) bytes (part_pieces old) e

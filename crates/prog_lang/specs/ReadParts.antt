@@ -36,7 +36,8 @@ abbrev pub second_at : AssertRule → List (List ℕ) → ℕ → List Counted �
 second_at rule names n = maybe_past skipped (goes_on (codes "else")) tree.Empty (λ u. block_in rule names n)
 
 abbrev pub set_at : List (List ℕ) → ℕ → List Counted → Reading Counted FaultKind Stmt
-set_at names i = said_at (codes ":=") >>= λ u. operand_at program_limits names >>= λ x. said_at (codes ";") >>= λ v. gives (tree.Set i x)
+set_at names i = said_at (codes ":=") >>= λ u. operand_at program_limits names >>= λ x. said_at (codes ";") >>=
+    λ v. gives (tree.Set i x)
 
 abbrev pub havoc_at : List (List ℕ) → List Counted → Reading Counted FaultKind Stmt
 havoc_at names = token_past skipped Syntax (variable names) >>= λ i. said_at (codes ";") >>= λ u. gives (tree.Havoc i)
@@ -51,10 +52,13 @@ abbrev pub skip_at : List Counted → Reading Counted FaultKind Stmt
 skip_at = said_at (codes ";") >>= λ u. gives tree.Skip
 
 abbrev pub branch_at : AssertRule → List (List ℕ) → ℕ → List Counted → Reading Counted FaultKind Stmt
-branch_at rule names n = condition_at program_limits names n >>= λ c. block_in rule names n >>= λ xs. second_at rule names n >>= λ ys. gives (tree.If c xs ys)
+branch_at rule names n =
+    condition_at program_limits names n >>= λ c. block_in rule names n >>= λ xs. second_at rule names n >>=
+    λ ys. gives (tree.If c xs ys)
 
 abbrev pub loop_at : AssertRule → List (List ℕ) → ℕ → List Counted → Reading Counted FaultKind Stmt
-loop_at rule names n = condition_at program_limits names n >>= λ c. block_in rule names n >>= λ xs. gives (tree.While c xs)
+loop_at rule names n =
+    condition_at program_limits names n >>= λ c. block_in rule names n >>= λ xs. gives (tree.While c xs)
 
 -- the rest of a statement
 abbrev pub rest_at : AssertRule → List (List ℕ) → ℕ → Verb → List Counted → Reading Counted FaultKind Stmt

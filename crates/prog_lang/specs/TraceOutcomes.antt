@@ -15,4 +15,6 @@ trace_file_of t = record { program = t.program; start = t.start; choices = t.cho
 
 -- why a trace file is refused
 abbrev pub IsTraceRefusal : List ℕ → TextErr → Type 0
-IsTraceRefusal bytes e = IsRefusalIn (traces.IsTraceFile program_limits Either) shapes.trace_file (traces.IsTraceCause program_limits Either) (traces.trace_file_at program_limits Either) bytes (program_pieces bytes) e
+IsTraceRefusal bytes e =
+    IsRefusalIn (traces.IsTraceFile program_limits Either) shapes.trace_file (traces.IsTraceCause program_limits Either)
+    (traces.trace_file_at program_limits Either) bytes (program_pieces bytes) e

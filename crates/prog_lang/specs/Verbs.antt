@@ -17,5 +17,6 @@ verb_of (Sets i) = statements.Sets i
 -- whether a statement may begin with the token
 abbrev pub is_start : Counted → Bool
 is_start t =
-    says (codes "havoc") t || says (codes "assume") t || says (codes "assert") t || says (codes "if") t || says (codes "while") t || says (codes "skip") t
+    says (codes "havoc") t || says (codes "assume") t || says (codes "assert") t || says (codes "if") t || says
+    (codes "while") t || says (codes "skip") t
     || is_variable t

@@ -75,7 +75,8 @@ module _ (ts us : List Piece) (h : Head) (p : Named) (opened : opening_at ts ≡
   from_lines : report_at ts ≡ made lines_here
   from_lines = report_opened ts ∙ ap (λ (z : Read (Head × Named)). go_on z behind_opening) opened ∙ rest_lines h p us
 
-  pub report_whole : (b : Body Element) (vs : List Piece) → lines_here ≡ Ok (b, vs) → report_at ts ≡ Ok (report h p b, vs)
+  pub report_whole : (b : Body Element) (vs : List Piece) → lines_here ≡ Ok (b, vs) →
+      report_at ts ≡ Ok (report h p b, vs)
   unfolding gives
   report_whole b vs e = from_lines ∙ ap made e
 

@@ -25,7 +25,8 @@ sound R N delay narrow passes program graph parts verdicts d k n keeps same each
     narrow = k;
     passes = n;
     program = keeps;
-    parts = All-map (IsPartKept R N (length program.names + 1)) part_of parts (λ i x lt. IsPointKept.part (each i x lt));
+    parts =
+        All-map (IsPartKept R N (length program.names + 1)) part_of parts (λ i x lt. IsPointKept.part (each i x lt));
     points_are = length-map parts part_of ∙ points_are;
     asserts_are = asserts_are;
   };

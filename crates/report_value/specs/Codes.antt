@@ -16,7 +16,8 @@ module _ {V : Type 0} (code : Coded V) where
 
   abbrev pub coded_part : Coded (Part V)
   coded_part =
-      code_by (List (List V) × List (Inequality V)) (coded× (coded_list (coded_list code)) (coded_list coded_inequality))
+      code_by (List (List V) × List (Inequality V)) (coded×
+      (coded_list (coded_list code)) (coded_list coded_inequality))
       (λ x. (x.rows, x.printed)) (λ p. record { rows = p.0; printed = p.1 }) (λ _. refl)
 
   abbrev pub coded_report : Coded (ReportOver V)

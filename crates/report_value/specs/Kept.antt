@@ -27,10 +27,11 @@ pub record IsPartKept {V : Type 0} (R : Semiring V) (N : Numbering V) (n : ℕ) 
   pub printed_small : system_size R part.printed ≤ greatest_inv
 
 -- both of its lists are lists in n coordinates
-pub record IsPointKept {V Store : Type 0} (R : Semiring V) (N : Numbering V) (n : ℕ) (p : PointPart V Store) : Type 0 where
-  pub rows_width : p.rows.n ≡ n
-  pub invs_width : p.invs.n ≡ n
-  pub part : IsPartKept R N n (part_of p)
+pub record IsPointKept {V Store : Type 0} (R : Semiring V) (N : Numbering V) (n : ℕ) (p : PointPart V Store) : Type 0
+  where
+    pub rows_width : p.rows.n ≡ n
+    pub invs_width : p.invs.n ≡ n
+    pub part : IsPartKept R N n (part_of p)
 
 -- nothing is more than the limits, there is a part for each point of its program, and a verdict for each of its asserts
 pub record IsKept {V : Type 0} (R : Semiring V) (N : Numbering V) (r : ReportOver V) : Type 0 where

@@ -31,7 +31,8 @@ module _ {V : Type 0} (R : Semiring V) (N : Numbering V) (reversed : Bool) (dela
       FamilyOf R N reversed delay narrow p (Gives E)
   family_gives E h = subst (λ H. Analysis (polyhedra R N reversed) H delay narrow (Gives E)) graph_is h
 
-  pub family_refused : (refusal : Refusal) → IsAnalysisRefusal (Analysis (polyhedra R N reversed) G delay narrow) refusal →
+  pub family_refused : (refusal : Refusal) →
+      IsAnalysisRefusal (Analysis (polyhedra R N reversed) G delay narrow) refusal →
       IsReportRefusal R N reversed delay narrow p refusal
   family_refused refusal h =
       analysis_refused R N reversed delay narrow p refusal

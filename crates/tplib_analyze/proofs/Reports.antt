@@ -165,7 +165,8 @@ module _ {V : Type 0} {R : Semiring V} {N : Numbering V} {reversed : Bool} (laws
         (block_each (SuitsWords reversed) p.body 0 suits) in
         let here : get_or (map claimed xs) k (claimed a) ≡ claimed a =
         get_or-map claimed xs k a (claimed a) l ∙ ap claimed (get_or_from_slice_get xs k a a is) in
-        placed.assert_suits (nameless p) a (k, l, get_or_from_slice_get xs k a a is) reversed kept.coordinates kept.sides
+        placed.assert_suits (nameless p) a (k, l, get_or_from_slice_get xs k a a is) reversed kept.coordinates
+        kept.sides
         (subst (λ (c : Claimed). SuitsWords reversed c.claim) here
         (each k (claimed a) (let m = length-map xs claimed in omega (arith, l, m))))
 
@@ -220,7 +221,8 @@ module _ {V : Type 0} {R : Semiring V} {N : Numbering V} {reversed : Bool} (laws
         omega (arith, s, m)
 
     pub length-verdicts : length verdicts ≡ length (assert_numbers p)
-    length-verdicts = sym (AllZip-length (IsJudgedBy (IsProvenBy R N reversed) value) (asserts (nameless p)) verdicts judged)
+    length-verdicts =
+        sym (AllZip-length (IsJudgedBy (IsProvenBy R N reversed) value) (asserts (nameless p)) verdicts judged)
         ∙ sym (length-map (asserts (nameless p)) (λ (a : Assertion). a.number))
 
     part_for : (q : ℕ) → q < length (parts_of parts) → IsPartFor R (value q) (part_at report q)

@@ -61,7 +61,8 @@ module _ (mode : Mode) where
     stmt_words (Assume c) p k next h = All-nil Suits
     stmt_words Skip p k next h = All-nil Suits
 
-    block_words : (b : Block) (p k next : ℕ) → SuitsBlock (rule_of mode) b → All Suits (asserts_of (places_of p k b next))
+    block_words : (b : Block) (p k next : ℕ) → SuitsBlock (rule_of mode) b →
+        All Suits (asserts_of (places_of p k b next))
     block_words Empty p k next h = All-nil Suits
     block_words (Then st b) p k next h =
         both_words (places p k st (entry (p + width st) b next)) (places_of (p + width st) (k + count st) b next)

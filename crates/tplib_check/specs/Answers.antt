@@ -15,7 +15,8 @@ use Rattle.report_texts.specs.Reports.{ReportText, said_by}
 use Rattle.prog_check.specs.Truths.{IsTrueAtVisits}
 use Rattle.tplib_check.specs.Lines.{verdict_line}
 
--- the claim of each assert that is said to be proved is true, in ordinary numbers, of each state with which a run visits
+-- the claim of each assert that is said to be proved is true, in ordinary numbers, of each state with which a run
+-- visits
 -- its statement
 abbrev pub AreProvedTrue : {V : Type 0} → Report V → Type 0
 AreProvedTrue report = (k : ℕ) (a : Assertion) → slice_get (asserts report.program) k ≡ Some a
@@ -38,7 +39,8 @@ pub record IsFailureAnswer {V : Type 0} (kind : RingKind) (R : Semiring V) (N : 
   pub first : IsVerdict R N reversed report verdict
   pub line : text ≡ verdict_line kind N verdict
 
-abbrev pub IsVerdictReply : {V : Type 0} → RingKind → Semiring V → Numbering V → Bool → Report V → Bool → List ℕ → Type 0
+abbrev pub IsVerdictReply : {V : Type 0} → RingKind → Semiring V → Numbering V → Bool → Report V → Bool → List ℕ →
+    Type 0
 IsVerdictReply kind R N reversed report true text = IsInductiveAnswer R N reversed report text
 IsVerdictReply kind R N reversed report false text = IsFailureAnswer kind R N reversed report text
 

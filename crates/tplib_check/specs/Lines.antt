@@ -11,7 +11,8 @@ escape_line kind N edge row = codes "escapes edge " ++ decimal edge ++ codes " r
     ++ codes "\n"
 
 abbrev pub failure_line : ℕ → ℕ → List ℕ
-failure_line point index = codes "invariant fails point " ++ decimal point ++ codes " number " ++ decimal index ++ codes "\n"
+failure_line point index =
+    codes "invariant fails point " ++ decimal point ++ codes " number " ++ decimal index ++ codes "\n"
 
 abbrev pub wrong_line : ℕ → List ℕ
 wrong_line statement = codes "assert wrong statement " ++ decimal statement ++ codes "\n"

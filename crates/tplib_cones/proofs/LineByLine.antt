@@ -67,7 +67,8 @@ module _ {V : Type 0} (R : Semiring V) (n : ℕ) where
   within_nothing rows h (suc j) l o = absurd (omega arith)
 
   -- the whole space is within the limit
-  pub within_none : (xs : List (Inequality V)) (rows : List (List V)) → Describes R n [] rows → xs ≡ [] → IsWithin R n xs
+  pub within_none : (xs : List (Inequality V)) (rows : List (List V)) → Describes R n [] rows → xs ≡ [] →
+      IsWithin R n xs
   within_none xs rows h none = subst (IsWithin R n) (sym none) (within_nothing rows h)
 
   within_at : (xs : List (Inequality V)) (x : Inequality V) → IsWithin R n xs → (TooMany (xs ++ x ∷ []) → ⊥) → (j : ℕ) →

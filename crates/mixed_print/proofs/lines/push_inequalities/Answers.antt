@@ -17,7 +17,8 @@ loop-inv-preserved c =
 pub returns : goal.returns
 returns c =
     let invs = c.args.invs.now.inequalities in
-    let past : length invs ≤ c.loop-inv.inv-index = omega (arith, ap length c.as_slice-inv-items.ensures.inequalities) in
+    let past : length invs ≤ c.loop-inv.inv-index =
+    omega (arith, ap length c.as_slice-inv-items.ensures.inequalities) in
     all_done _ _ _ c.loop-inv.invariant
     (ap (lines_text (inv_line c.args.names.now))
     (drop_all invs c.loop-inv.inv-index past))

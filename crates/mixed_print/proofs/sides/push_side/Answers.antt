@@ -9,7 +9,8 @@ returns-then-count-eq0 g c =
     let kind = g.S.Spelling.KIND in
     let N = g.S.Scalar.numbering in
     let none = ap N.to c.zero.ensures ∙ (g.met.S.Scalar.number_laws.none _).1 refl in
-    let count = length-terms_from N kind (twin_names c.args.names.now) 0 c.args.side.now ∙ sym c.count_terms-count.ensures in
+    let count = length-terms_from N kind (twin_names c.args.names.now) 0 c.args.side.now
+    ∙ sym c.count_terms-count.ensures in
     subst (λ t. OnOk c.push_element.result (c.push_element.new.text.items ≡ c.args.text.now.items ++ t))
     (ap (element_text kind) none ∙ sym (no_term kind _ (count ∙ c.if-count-eq0.true))) c.push_element.ensures.ok
 

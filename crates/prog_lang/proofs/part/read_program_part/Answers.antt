@@ -22,14 +22,22 @@ returns-in-Ok-clause-found c =
 pub returns-in-Ok-clause-only : goal.returns-in-Ok-clause-only
 returns-in-Ok-clause-only c front rest p e h k =
     let s = c.begin.ensures.left ∙ ap part_pieces c.copy-start.ensures.tokens in
-    yielded (IsClosed program_limits (rule_of c.args.rule)) closed_program (IsProgramCause program_limits (rule_of c.args.rule)) (part_at program_limits (rule_of c.args.rule)) _ _ _ _ _ p s c.in-Ok.ensures.gives (part_spelled (rule_of c.args.rule) _ _ front rest p s e h k)
+    yielded (IsClosed program_limits (rule_of c.args.rule)) closed_program
+    (IsProgramCause program_limits (rule_of c.args.rule)) (part_at program_limits (rule_of c.args.rule)) _ _ _ _ _ p
+    s c.in-Ok.ensures.gives (part_spelled (rule_of c.args.rule) _ _ front rest p s e h k)
 
 pub returns-in-Err-clause-only : goal.returns-in-Err-clause-only
 returns-in-Err-clause-only c front rest p e h k =
     let s = c.begin.ensures.left ∙ ap part_pieces c.copy-start.ensures.tokens in
-    not_refused (IsClosed program_limits (rule_of c.args.rule)) closed_program (IsProgramCause program_limits (rule_of c.args.rule)) (part_at program_limits (rule_of c.args.rule)) (λ (q : Named). q) (source c.copy-start.result) _ _ _ p c.in-Err.e c.placed.result s c.in-Err.ensures.gives (part_spelled (rule_of c.args.rule) _ _ front rest p s e h k) c.placed.ensures
+    not_refused (IsClosed program_limits (rule_of c.args.rule)) closed_program
+    (IsProgramCause program_limits (rule_of c.args.rule)) (part_at program_limits (rule_of c.args.rule))
+    (λ (q : Named). q) (source c.copy-start.result) _ _ _ p c.in-Err.e c.placed.result s c.in-Err.ensures.gives
+    (part_spelled (rule_of c.args.rule) _ _ front rest p s e h k) c.placed.ensures
 
 pub returns-in-Err-clause-fault : goal.returns-in-Err-clause-fault
 returns-in-Err-clause-fault c =
     let s = c.begin.ensures.left ∙ ap part_pieces c.copy-start.ensures.tokens in
-    refused (IsClosed program_limits (rule_of c.args.rule)) closed_program (IsProgramCause program_limits (rule_of c.args.rule)) (part_at program_limits (rule_of c.args.rule)) (part_fault program_limits (rule_of c.args.rule)) _ _ _ c.in-Err.e c.placed.result s c.in-Err.ensures.gives (subst (λ (b : List ℕ). IsPlaced b c.in-Err.e c.placed.result) c.copy-start.ensures.source c.placed.ensures)
+    refused (IsClosed program_limits (rule_of c.args.rule)) closed_program
+    (IsProgramCause program_limits (rule_of c.args.rule)) (part_at program_limits (rule_of c.args.rule))
+    (part_fault program_limits (rule_of c.args.rule)) _ _ _ c.in-Err.e c.placed.result s c.in-Err.ensures.gives
+    (subst (λ (b : List ℕ). IsPlaced b c.in-Err.e c.placed.result) c.copy-start.ensures.source c.placed.ensures)

@@ -29,7 +29,8 @@ decreases-closed l = 6 * l.depth + 6
 
 abbrev pub invariant-statements-statements : goal.invariant-statements-statements
 invariant-statements-statements l =
-    IsAhead (rule_of l.rule) l.names l.depth l.block (left l.rest) (spec.statements_at program_limits (rule_of l.rule) l.names l.depth (left l.at))
+    IsAhead (rule_of l.rule) l.names l.depth l.block (left l.rest)
+    (spec.statements_at program_limits (rule_of l.rule) l.names l.depth (left l.at))
     × (source_of l.rest ≡ source_of l.at) × (length (left l.rest) ≤ length (left l.at))
 
 abbrev pub decreases-statements-statements : goal.decreases-statements-statements

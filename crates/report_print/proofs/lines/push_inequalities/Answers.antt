@@ -16,7 +16,8 @@ loop-inv-preserved g c =
 pub returns : goal.returns
 returns g c =
     let invs = c.args.invs.now.inequalities in
-    let past : length invs ≤ c.loop-inv.inv-index = omega (arith, ap length c.as_slice-inv-items.ensures.inequalities) in
+    let past : length invs ≤ c.loop-inv.inv-index =
+    omega (arith, ap length c.as_slice-inv-items.ensures.inequalities) in
     all_done _ _ _ c.loop-inv.invariant
     (ap (inequalities_text g.S.Spelling.KIND g.S.Scalar.numbering c.args.names.now)
     (drop_all invs c.loop-inv.inv-index past))

@@ -30,7 +30,8 @@ returns-in-Min-clause-text c =
 pub returns-in-Min-clause-read_back : goal.returns-in-Min-clause-read_back
 returns-in-Min-clause-read_back c = λ within suits.
     text_spells (λ text. text.items) c.print_over-in-Min.result (text_of c.args.report.now) within
-    (subst (λ r. AreNames (text_of r).program.names) (sym c.in-Min.is) c.print_over-in-Min.ensures.keeps.program.names) suits
+    (subst (λ r. AreNames (text_of r).program.names) (sym c.in-Min.is) c.print_over-in-Min.ensures.keeps.program.names)
+    suits
     (subst (λ t. IfOk c.print_over-in-Min.result (λ text. text.items ≡ t))
     (sym (printed_is InMin c.in-Min.report) ∙ ap (λ r. printed_report (text_of r)) (sym c.in-Min.is))
     c.print_over-in-Min.ensures.text)

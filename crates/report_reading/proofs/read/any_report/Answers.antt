@@ -14,7 +14,8 @@ returns-in_err-head c =
 
 pub returns-in_err-body-in-Max : goal.returns-in_err-body-in-Max
 returns-in_err-body-in-Max c =
-    let p = err_from_is_err_and c.from_residual-in_err-body-in-Max.result c.from_residual-in_err-body-in-Max.ensures.1 in
+    let p =
+    err_from_is_err_and c.from_residual-in_err-body-in-Max.result c.from_residual-in_err-body-in-Max.ensures.1 in
     rw (p.1, p.2) (lines_fail c.args.bytes.now _ (start_is c.args.bytes.now c.new.result
     c.new-2.result c.new.ensures.tokens c.new-2.ensures.pieces) InMax _ (head_of c.in_ok-head.head)
     c.in_ok-head.program c.in_ok-head.ensures.gives (ap mode_of c.in-Max.is) _ c.in_err-body-in-Max.ensures)
@@ -32,13 +33,15 @@ report-requires-clause-parts c = IsAsked.parts (lines_asked c.args.bytes.now _ (
     c.in_ok-body-in-Max.body _ c.in_ok-body-in-Max.ensures)
 
 pub report-requires-clause-points : goal.report-requires-clause-points
-report-requires-clause-points c = IsAsked.points_are (lines_asked c.args.bytes.now _ (start_is c.args.bytes.now c.new.result
+report-requires-clause-points c =
+    IsAsked.points_are (lines_asked c.args.bytes.now _ (start_is c.args.bytes.now c.new.result
     c.new-2.result c.new.ensures.tokens c.new-2.ensures.pieces) InMax _ (head_of c.in_ok-head.head)
     c.in_ok-head.program c.in_ok-head.ensures.gives (ap mode_of c.in-Max.is)
     c.in_ok-body-in-Max.body _ c.in_ok-body-in-Max.ensures)
 
 pub report-requires-clause-asserts : goal.report-requires-clause-asserts
-report-requires-clause-asserts c = IsAsked.asserts_are (lines_asked c.args.bytes.now _ (start_is c.args.bytes.now c.new.result
+report-requires-clause-asserts c =
+    IsAsked.asserts_are (lines_asked c.args.bytes.now _ (start_is c.args.bytes.now c.new.result
     c.new-2.result c.new.ensures.tokens c.new-2.ensures.pieces) InMax _ (head_of c.in_ok-head.head)
     c.in_ok-head.program c.in_ok-head.ensures.gives (ap mode_of c.in-Max.is)
     c.in_ok-body-in-Max.body _ c.in_ok-body-in-Max.ensures)
@@ -51,31 +54,36 @@ returns-in_ok-report-in-Max c = report_read c.args.bytes.now _ (start_is c.args.
 
 pub returns-in_err-body-in-Min : goal.returns-in_err-body-in-Min
 returns-in_err-body-in-Min c =
-    let p = err_from_is_err_and c.from_residual-in_err-body-in-Min.result c.from_residual-in_err-body-in-Min.ensures.1 in
+    let p =
+    err_from_is_err_and c.from_residual-in_err-body-in-Min.result c.from_residual-in_err-body-in-Min.ensures.1 in
     rw (p.1, p.2) (lines_fail c.args.bytes.now _ (start_is c.args.bytes.now c.new.result
     c.new-2.result c.new.ensures.tokens c.new-2.ensures.pieces) InMin _ (head_of c.in_ok-head.head)
     c.in_ok-head.program c.in_ok-head.ensures.gives (ap mode_of c.in-Min.is) _ c.in_err-body-in-Min.ensures)
 
 pub report-requires-in-Min-clause-passes : goal.report-requires-in-Min-clause-passes
-report-requires-in-Min-clause-passes c = IsAsked.passes (lines_asked c.args.bytes.now _ (start_is c.args.bytes.now c.new.result
+report-requires-in-Min-clause-passes c =
+    IsAsked.passes (lines_asked c.args.bytes.now _ (start_is c.args.bytes.now c.new.result
     c.new-2.result c.new.ensures.tokens c.new-2.ensures.pieces) InMin _ (head_of c.in_ok-head.head)
     c.in_ok-head.program c.in_ok-head.ensures.gives (ap mode_of c.in-Min.is)
     c.in_ok-body-in-Min.body _ c.in_ok-body-in-Min.ensures)
 
 pub report-requires-in-Min-clause-parts : goal.report-requires-in-Min-clause-parts
-report-requires-in-Min-clause-parts c = IsAsked.parts (lines_asked c.args.bytes.now _ (start_is c.args.bytes.now c.new.result
+report-requires-in-Min-clause-parts c =
+    IsAsked.parts (lines_asked c.args.bytes.now _ (start_is c.args.bytes.now c.new.result
     c.new-2.result c.new.ensures.tokens c.new-2.ensures.pieces) InMin _ (head_of c.in_ok-head.head)
     c.in_ok-head.program c.in_ok-head.ensures.gives (ap mode_of c.in-Min.is)
     c.in_ok-body-in-Min.body _ c.in_ok-body-in-Min.ensures)
 
 pub report-requires-in-Min-clause-points : goal.report-requires-in-Min-clause-points
-report-requires-in-Min-clause-points c = IsAsked.points_are (lines_asked c.args.bytes.now _ (start_is c.args.bytes.now c.new.result
+report-requires-in-Min-clause-points c =
+    IsAsked.points_are (lines_asked c.args.bytes.now _ (start_is c.args.bytes.now c.new.result
     c.new-2.result c.new.ensures.tokens c.new-2.ensures.pieces) InMin _ (head_of c.in_ok-head.head)
     c.in_ok-head.program c.in_ok-head.ensures.gives (ap mode_of c.in-Min.is)
     c.in_ok-body-in-Min.body _ c.in_ok-body-in-Min.ensures)
 
 pub report-requires-in-Min-clause-asserts : goal.report-requires-in-Min-clause-asserts
-report-requires-in-Min-clause-asserts c = IsAsked.asserts_are (lines_asked c.args.bytes.now _ (start_is c.args.bytes.now c.new.result
+report-requires-in-Min-clause-asserts c =
+    IsAsked.asserts_are (lines_asked c.args.bytes.now _ (start_is c.args.bytes.now c.new.result
     c.new-2.result c.new.ensures.tokens c.new-2.ensures.pieces) InMin _ (head_of c.in_ok-head.head)
     c.in_ok-head.program c.in_ok-head.ensures.gives (ap mode_of c.in-Min.is)
     c.in_ok-body-in-Min.body _ c.in_ok-body-in-Min.ensures)

@@ -37,7 +37,8 @@ parts-requires g c =
       few = few_values g.met.S.Scalar.ring_laws g.met.S.Numeric.numeric_laws p c.vars.ensures.keeps.within
           c.requires.suits
           c.args.delay c.args.narrow E (family_gives R N reversed c.args.delay c.args.narrow p c.in_ok-graph.graph
-          c.in_ok-graph.ensures.graph E c.in_ok-family.ensures.gives) c.as_slice-values.result.now c.as_slice-values.ensures.value;
+          c.in_ok-graph.ensures.graph E c.in_ok-family.ensures.gives) c.as_slice-values.result.now
+          c.as_slice-values.ensures.value;
     }
 
 pub returns-in_err-parts-clause-refused : goal.returns-in_err-parts-clause-refused

@@ -12,7 +12,8 @@ lines-init g c = record {
   names = refl;
   system = c.requires.empty ∙ sym c.requires.first;
   width = refl;
-  within = within_none g.S.Scalar.ring c.args.conversion.now.n c.args.conversion.now.system c.args.conversion.now.rows c.requires.described
+  within = within_none g.S.Scalar.ring c.args.conversion.now.n c.args.conversion.now.system c.args.conversion.now.rows
+      c.requires.described
       c.requires.empty;
 }
 
@@ -32,7 +33,8 @@ lines-preserved g c =
       names = names_stay h ∙ inv.names;
       system = c.in-Ok.ensures.system ∙ ap (λ z. z ++ c.in-Ok-Some.ineq ∷ []) inv.system ∙ sym (given_is h);
       width = c.in-Ok.ensures.width ∙ inv.width;
-      within = within_line g.S.Scalar.ring c.args.conversion.now.n c.lines.conversion.n c.lines.conversion.system c.push.new.self.system
+      within = within_line g.S.Scalar.ring c.args.conversion.now.n c.lines.conversion.n c.lines.conversion.system
+          c.push.new.self.system
           c.in-Ok-Some.ineq inv.within c.in-Ok.ensures.system inv.width c.in-Ok.ensures.within;
     }
 
@@ -41,11 +43,13 @@ stopped-requires g c =
     let inv = c.lines.invariant in
     let h = line_given g.S.Spelling.KIND g.S.Scalar.ring g.S.Scalar.numbering c.lines.lines c.next.new.self
     c.in-Ok-Some.field-0 c.in-Ok-Some.ineq c.in-Ok-Some.field-0-is c.in-Ok-Some.ensures.given in
-    let r = subst (IsRefusedBy g.S.Scalar.ring c.lines.conversion.n (c.lines.conversion.system ++ c.in-Ok-Some.ineq ∷ []))
+    let r = subst
+    (IsRefusedBy g.S.Scalar.ring c.lines.conversion.n (c.lines.conversion.system ++ c.in-Ok-Some.ineq ∷ []))
     c.in-Err-Limit.field-0-is c.in-Err-Limit.ensures.refused in
     subst (IsRowsStop g.S.Scalar.ring (length c.next.new.self.names + 1) c.next.new.self.given)
     (sym c.in-Err-Limit.count-is)
-    (stop_line g.S.Scalar.ring c.args.conversion.now.n c.lines.conversion.n (length c.next.new.self.names + 1) c.in-Err-Limit.count
+    (stop_line g.S.Scalar.ring c.args.conversion.now.n c.lines.conversion.n (length c.next.new.self.names + 1)
+    c.in-Err-Limit.count
     c.lines.conversion.system c.lines.lines.given c.next.new.self.given c.in-Ok-Some.ineq inv.within inv.system
     (given_is h) inv.width
     (c.requires.width ∙ ap (λ z. length z + 1) (sym (names_stay h ∙ inv.names))) r.0 r.1)

@@ -18,7 +18,8 @@ pub returns-clause-size : goal.returns-clause-size
 returns-clause-size g c =
     let R = g.S.Scalar.ring in
     let gens = c.args.gens.now in
-    let e = c.from_rows.ensures.rows ∙ c.in_ok-push_unit.ensures ∙ ap₂ (λ a k. a ++ set (bottom R k) c.args.i R.one ∷ [])
+    let e = c.from_rows.ensures.rows ∙ c.in_ok-push_unit.ensures
+    ∙ ap₂ (λ a k. a ++ set (bottom R k) c.args.i R.one ∷ [])
     (c.in_ok-rows.ensures ∙ ap (map (λ g. set g c.args.i R.zero)) c.as_slice.ensures.rows) c.n-n.ensures.value in
     omega (
       arith,
@@ -32,7 +33,8 @@ returns-clause-same g c x =
     let R = g.S.Scalar.ring in
     let gens = c.args.gens.now in
     let out = c.from_rows.result in
-    let e = c.from_rows.ensures.rows ∙ c.in_ok-push_unit.ensures ∙ ap₂ (λ a k. a ++ set (bottom R k) c.args.i R.one ∷ [])
+    let e = c.from_rows.ensures.rows ∙ c.in_ok-push_unit.ensures
+    ∙ ap₂ (λ a k. a ++ set (bottom R k) c.args.i R.one ∷ [])
     (c.in_ok-rows.ensures ∙ ap (map (λ g. set g c.args.i R.zero)) c.as_slice.ensures.rows) c.n-n.ensures.value in
     forgetting_rows g.met.S.Scalar.ring_laws gens.n out.n out.rows
     (c.from_rows.ensures.width ∙ c.n-n.ensures.value) c.args.i gens.rows c.as_slice.ensures.wide c.requires.within e
